@@ -1,0 +1,4 @@
+pub mod ByPlaces
+pub mod Alike
+pub mod EntryLaws
+pub mod OrderFacts

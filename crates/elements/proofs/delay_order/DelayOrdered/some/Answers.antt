@@ -1,0 +1,6 @@
+use mathlib.Core.Path.{refl}
+use Rattle.elements.proofs.Alike.{delay-alike}
+use Rattle.elements.proofs.delay_order.DelayOrdered.some.Needs as need
+
+pub returns : need.returns
+returns c = delay-alike _ _ refl

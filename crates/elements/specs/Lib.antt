@@ -1,0 +1,4 @@
+pub mod Orders
+pub mod LinkLevels
+pub mod Entries
+pub mod Words

@@ -1,0 +1,4 @@
+pub mod Numbers
+pub mod Notices
+pub mod Words
+pub mod Refusing

@@ -1,0 +1,6 @@
+pub mod Digits
+pub mod Levels
+pub mod Bodies
+pub mod Loops
+pub mod Layings
+pub mod Decisions
