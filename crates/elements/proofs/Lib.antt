@@ -2,3 +2,4 @@ pub mod ByPlaces
 pub mod Alike
 pub mod EntryLaws
 pub mod OrderFacts
+pub mod Indexes

@@ -81,9 +81,3 @@ module _ {E : Type 0} (f : Format E) (fixed : FixedWidth f) where
 -- the end of the element at index i lies within the bytes of n elements
 pub within-body : (i n w : ℕ) → i < n → i * w + w ≤ n * w
 within-body i n w h = omega (arith, suc-mul i w, mul-le-mul-right w h)
-
--- there is an element at each index of a list
-pub at-index : {X : Type 0} (xs : List X) (i : ℕ) → i < length xs → (x : X) × ((d : X) → getD xs i d ≡ x)
-at-index [] i h = absurd (not-suc-le-zero h)
-at-index (x ∷ xs) zero h = (x, λ d. refl)
-at-index (x ∷ xs) (suc i) h = at-index xs i (le-of-suc-le-suc h)

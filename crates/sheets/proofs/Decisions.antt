@@ -9,6 +9,7 @@ use native.Mathlib.Omega.{arith}
 use lib.ListN.{length, getD, drop, length-drop}
 use Rattle.std.proofs.shelf.Tests.{both-ways, cases-lt}
 use Rattle.elements.specs.Orders.{IsOrder, Trichotomy, Transitive}
+use Rattle.elements.proofs.Indexes.{at-index}
 use Rattle.elements.proofs.OrderFacts.{neighbours-never-fall}
 use Rattle.faults.specs.Numbers.{number-of}
 use Rattle.faults.specs.Refusing.{Decides, NoneApplies}
@@ -24,7 +25,7 @@ use Rattle.sheets.specs.Refusals.{FirstFall, Body, Applies, Acceptable}
 use Rattle.faults.specs.declared.fault.Seat.{Seat}
 use Rattle.faults.specs.declared.fault.SheetFault.{SheetFault}
 use Rattle.sheets.specs.Readings.{FallAt, Filled, Answers, ReaderLaw}
-use Rattle.sheets.proofs.Bodies.{packed-apart, at-index, bytes-drop, some-list}
+use Rattle.sheets.proofs.Bodies.{packed-apart, bytes-drop, some-list}
 use Rattle.sheets.proofs.Layings.{layout-long, layout-counted, layouts-apart, laid-out}
 
 -- what a type that is carried on sheets owes
