@@ -1,0 +1,3 @@
+pub mod Summaries
+pub mod Words
+pub mod Reports
