@@ -62,15 +62,11 @@ module _ {E : Type 0} (f : Format E) (fixed : FixedWidth f) where
       let r = some-list complete n (drop w bytes) (bytes-drop w bytes h) (omega (arith, length-drop w bytes)) in
       (x .0 ∷ r .0, (λ i. x .1 i ++ r .1 i) ∙ take-append-drop w bytes, ap suc (r .2))
 
-  -- the part of a body that the reader takes for the element at index i
-  pub part-at : (xs : List E) (bytes : List ℕ) (i p q : ℕ) (d : E) → p ≡ f .width → q ≡ f .width → packed f xs ≡ bytes → i < length xs →
-      f .coded (getD xs i d) ≡ take ((i * p + q) - i * p) (drop (i * p) bytes)
-  part-at xs bytes i p q d a b e h =
-      let n : (i * p + q) - i * p ≡ f .width = omega arith in
-      let m : i * p ≡ i * f .width = ap (λ (k : ℕ). i * k) a in
-      let r = packed-at xs i d h in
-      let s : drop (i * p) bytes ≡ drop (i * f .width) (packed f xs) = ap (λ (k : ℕ). drop k bytes) m ∙ ap (drop (i * f .width)) (sym e) in
-      cc
+  -- the same in bytes that are those of the list
+  pub part-at : (xs : List E) (bytes part : List ℕ) (i : ℕ) (d : E) → packed f xs ≡ bytes → i < length xs →
+      part ≡ take (f .width) (drop (i * f .width) bytes) → f .coded (getD xs i d) ≡ part
+  part-at xs bytes part i d e h p =
+      sym (p ∙ ap (λ (l : List ℕ). take (f .width) (drop (i * f .width) l)) (sym e) ∙ packed-at xs i d h)
 
   -- how many elements a body has
   pub count-of : (1 ≤ f .width) → (xs : List E) (bytes : List ℕ) (n : ℕ) → packed f xs ≡ bytes → length bytes ≡ n * f .width → length xs ≡ n

@@ -6,8 +6,9 @@ use mathlib.Core.Logic.{_⊎_, inl, inr}
 use Prim.Native.Nat.{ℕ, suc, _+_, _*_, _-_, _/_, _%_, _≤_, _<_}
 use native.Mathlib.Nat.{suc-mul, mul-le-mul-right, mul-mod-left, div-add-mod'}
 use native.Mathlib.Omega.{arith}
+use lib.Dec.{leb}
 use lib.ListN.{length, getD, drop, length-drop}
-use Rattle.std.proofs.shelf.Tests.{both-ways, cases-lt}
+use Rattle.std.proofs.shelf.Tests.{both-ways, cases-lt, leb-true, leb-false}
 use Rattle.elements.specs.Orders.{IsOrder, Trichotomy, Transitive}
 use Rattle.elements.proofs.Indexes.{at-index}
 use Rattle.elements.proofs.OrderFacts.{neighbours-never-fall}
@@ -24,7 +25,7 @@ use Rattle.sheets.specs.Headers.{version, stated-count, kind-of, most, HoldsEl
 use Rattle.sheets.specs.Refusals.{FirstFall, Body, Applies, Acceptable}
 use Rattle.faults.specs.declared.fault.Seat.{Seat}
 use Rattle.faults.specs.declared.fault.SheetFault.{SheetFault}
-use Rattle.sheets.specs.Readings.{FallAt, Filled, Answers, ReaderLaw}
+use Rattle.sheets.specs.Readings.{FallAt, Filled, for-seat, Reads, Answers, ReaderLaw}
 use Rattle.sheets.proofs.Bodies.{packed-apart, bytes-drop, some-list}
 use Rattle.sheets.proofs.Layings.{layout-long, layout-counted, layouts-apart, laid-out}
 
@@ -207,6 +208,19 @@ module _ {E : Type 0} (before : E → E → Bool) (f : Format E) (bytes : List �
       let bs : Bytes b = subst Bytes (sym e) (bytes-drop 6 bytes h) in
       let r = some-list f (law .fixed) (law .complete) (length b / w) b bs (body-count p b w e k) in
       (r .0, r .1, r .1 ∙ e, r .2)
+
+-- what the test for room in the slice tells
+pub room : (n m : ℕ) → true ≡ leb n m → n ≤ m
+room n m e = leb-true n m (sym e)
+
+pub no-room : (n m : ℕ) → false ≡ leb n m → m < n
+no-room n m e = leb-false n m (sym e)
+
+-- an answer stays what it is when it is told to a seat
+pub answer-told : {E : Type 0} (before : E → E → Bool) (f : Format E) (bytes : List ℕ) (was is : List E) (seat : Option Seat) (a : Result ℕ Refusal) (r : Result ℕ SheetFault) →
+    r ≡ for-seat seat a → Reads before f bytes was is a → Answers before f bytes was is seat r
+answer-told before f bytes was is seat (Ok n) r e h = subst (Answers before f bytes was is seat) (sym e) h
+answer-told before f bytes was is seat (Err q) r e h = subst (Answers before f bytes was is seat) (sym e) (h, refl)
 
 -- the reader's law follows from its answer
 pub reader-law : {E : Type 0} (before : E → E → Bool) (f : Format E) (bytes : List ℕ) (was is : List E) → Carried before f →

@@ -4,11 +4,7 @@ use mathlib.Core.List.{List, [], _∷_, _++_}
 use Prim.Native.Nat.{ℕ, _+_, _*_, _/_, _%_, _^_, _<_}
 use native.Mathlib.Omega.{arith}
 use lib.ListN.{length, getD, take, drop}
-use Rattle.sheets.specs.Layouts.{big-endian, Bytes}
-
--- the number that four bytes hold
-abbrev pub four : ℕ → ℕ → ℕ → ℕ → ℕ
-four a b c d = a * 16777216 + b * 65536 + c * 256 + d
+use Rattle.sheets.specs.Layouts.{big-endian, four, Bytes}
 
 pub digits-of-four : (a b c d : ℕ) → a < 256 → b < 256 → c < 256 → d < 256 → big-endian 4 (four a b c d) ≡ a ∷ b ∷ c ∷ d ∷ []
 digits-of-four a b c d p q r s =

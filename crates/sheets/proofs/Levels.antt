@@ -6,15 +6,15 @@ use native.Mathlib.Omega.{arith}
 use lib.IntN.{ℤ, pos, negsuc}
 use lib.Signed.{_≤ℤ_}
 use lib.ListN.{length, getD, drop}
-use mir.Val.{toZ, ofZ}
+use mir.Val.{toZ}
 use mir.Syntax.{w32}
 use Rattle.std.proofs.shelf.Signed.{ints}
 use Rattle.std.proofs.shelf.Ways.{tells}
 use Rattle.elements.specs.declared.link_level.LinkLevel.{LinkLevel}
 use Rattle.elements.proofs.Alike.{level-alike}
-use Rattle.sheets.specs.Layouts.{big-endian, Bytes}
+use Rattle.sheets.specs.Layouts.{big-endian, four, Bytes}
 use Rattle.sheets.specs.Formats.{twos-complement, level-bytes}
-use Rattle.sheets.proofs.Digits.{four, first-four, first-four-fits, first-four-digits, digits-of-four, digits-of-list, digits-apart}
+use Rattle.sheets.proofs.Digits.{first-four, first-four-fits, first-four-digits, digits-of-four, digits-of-list, digits-apart}
 
 pub twos-of-bits : (n : ℕ) → n < 2 ^ 32 → twos-complement (toZ w32 n) ≡ n
 twos-of-bits n h = grind (arith, tells)
@@ -79,10 +79,6 @@ levels-distinct x y e =
     = digits-apart (x .link) (y .link) (x .fits) (y .fits) (ap (λ (l : List ℕ). drop 4 l) e) in
     level-alike x y (twos-apart (x .level) (y .level) (x .low) (x .high) (y .low) (y .high) m) n
 
-there-and-back : (n : ℕ) → n < 2 ^ 32 → toZ w32 (ofZ w32 (toZ w32 n)) ≡ toZ w32 n
-there-and-back n h = let e : ofZ w32 (toZ w32 n) ≡ n = grind (arith, tells) in ap (toZ w32) e
-
-
 -- the number that the second four bytes of a list hold
 abbrev pub next-four : List ℕ → ℕ
 next-four bytes = four (getD bytes 4 0) (getD bytes 5 0) (getD bytes 6 0) (getD bytes 7 0)
@@ -94,12 +90,11 @@ next-is-drop (a ∷ b ∷ []) e = absurd (omega arith)
 next-is-drop (a ∷ b ∷ c ∷ []) e = absurd (omega arith)
 next-is-drop (a ∷ b ∷ c ∷ d ∷ rest) e = refl
 
+-- a level and a link that are read from eight bytes have those bytes
 pub bytes-of-read : (bytes : List ℕ) (z : ℤ) (n : ℕ) → length bytes ≡ 8 → Bytes bytes → z ≡ toZ w32 (first-four bytes) → n ≡ next-four bytes →
-    big-endian 4 (twos-complement (toZ w32 (ofZ w32 z))) ++ big-endian 4 n ≡ bytes
+    big-endian 4 (twos-complement z) ++ big-endian 4 n ≡ bytes
 bytes-of-read bytes z n e h p q =
-    let f : first-four bytes < 2 ^ 32 = first-four-fits bytes h in
-    let t : twos-complement (toZ w32 (ofZ w32 z)) ≡ first-four bytes
-    = ap (λ (y : ℤ). twos-complement (toZ w32 (ofZ w32 y))) p ∙ ap twos-complement (there-and-back (first-four bytes) f) ∙ twos-of-bits (first-four bytes) f in
+    let t : twos-complement z ≡ first-four bytes = ap twos-complement p ∙ twos-of-bits (first-four bytes) (first-four-fits bytes h) in
     let u : n ≡ first-four (drop 4 bytes) = q ∙ next-is-drop bytes e in
     let w = digits-of-eight bytes e h in
     cc

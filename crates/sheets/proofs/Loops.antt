@@ -41,17 +41,17 @@ module _ {X : Type 0} (before : X → X → Bool) where
         | inr n ↦ up j d (omega (arith, n))
       ]
 
-  -- the element that is before its predecessor
-  pub falls-here : (xs : List X) (i : ℕ) (x last : X) → 1 ≤ i → i < length xs → RisesTo xs i → ((d : X) → getD xs (i - 1) d ≡ last) → ((d : X) → getD xs i d ≡ x) →
-      true ≡ before x last → FirstFall before xs (i + 1)
-  falls-here xs i x last one h up l r b = record {
+  -- element spot is before its predecessor
+  pub falls-here : (xs : List X) (i spot : ℕ) (x last : X) → spot ≡ i + 1 → 1 ≤ i → i < length xs → RisesTo xs i → ((d : X) → getD xs (i - 1) d ≡ last) → ((d : X) → getD xs i d ≡ x) →
+      true ≡ before x last → FirstFall before xs spot
+  falls-here xs i spot x last n one h up l r b = record {
     second = omega arith;
     inside = omega arith;
     falls = λ d.
-        let p : i + 1 - 1 ≡ i = omega arith in
-        let q : i + 1 - 2 ≡ i - 1 = omega arith in
-        let s : getD xs (i + 1 - 1) d ≡ x = ap (λ (n : ℕ). getD xs n d) p ∙ r d in
-        let t : getD xs (i + 1 - 2) d ≡ last = ap (λ (n : ℕ). getD xs n d) q ∙ l d in
+        let p : spot - 1 ≡ i = omega arith in
+        let q : spot - 2 ≡ i - 1 = omega arith in
+        let s : getD xs (spot - 1) d ≡ x = ap (λ (n : ℕ). getD xs n d) p ∙ r d in
+        let t : getD xs (spot - 2) d ≡ last = ap (λ (n : ℕ). getD xs n d) q ∙ l d in
         (λ k. before (s k) (t k)) ∙ sym b;
     first = λ j d k. up j d (omega arith);
   }

@@ -3,20 +3,19 @@ use mathlib.Core.Path.{_≡_}
 use mathlib.Core.List.{List}
 use mathlib.Core.Logic.{_⊎_}
 use Prim.Native.Nat.{ℕ, _+_, _*_, _-_, _%_, _≤_, _<_}
-use lib.ListN.{length, getD, drop}
-use denote.Ref.{RefT}
+use lib.ListN.{length, getD}
 use Rattle.std.specs.declared.result.Result.{Result}
 use Rattle.std.specs.declared.result.Result.the-variants.{Ok, Err}
 use Rattle.faults.specs.declared.refusal.Refusal.{Refusal}
 use Rattle.faults.specs.declared.refusal.Refusal.the-variants.{SheetTooShort, VersionUnknown, CountDiffers, KindNotWanted, BodyNotAList, OutOfOrder, SliceTooShort, SeatsOutOfBounds, ListTooLong, RangeNotPlaces, RankOutOfBounds, OutsideRange, NotItsTurn, Impossible, ReportMissing, StockEmpty}
-use Rattle.sheets.specs.Layouts.{Format}
+use Rattle.sheets.specs.Layouts.{Format, four}
 
 abbrev pub version : List ℕ → ℕ
 version bytes = getD bytes 0 0
 
 -- how many bytes follow the first five, as the sheet states it
 abbrev pub stated-count : List ℕ → ℕ
-stated-count bytes = getD bytes 1 0 * 16777216 + getD bytes 2 0 * 65536 + getD bytes 3 0 * 256 + getD bytes 4 0
+stated-count bytes = four (getD bytes 1 0) (getD bytes 2 0) (getD bytes 3 0) (getD bytes 4 0)
 
 abbrev pub kind-of : List ℕ → ℕ
 kind-of bytes = getD bytes 5 0
@@ -60,7 +59,7 @@ HeaderFails f bytes Impossible = ⊥
 HeaderFails f bytes ReportMissing = ⊥
 HeaderFails f bytes StockEmpty = ⊥
 
--- the bytes after a header that passes, or the check that fails
-abbrev pub HeaderRead : {E : Type 0} → Format E → List ℕ → Result (RefT (List ℕ)) Refusal → Type 0
-HeaderRead f bytes (Ok b) = (b .now ≡ drop 6 bytes) × HeaderPasses f bytes
-HeaderRead f bytes (Err r) = HeaderFails f bytes r
+-- what the check of a header answers
+abbrev pub HeaderChecked : {E : Type 0} → Format E → List ℕ → Result (Unit {0}) Refusal → Type 0
+HeaderChecked f bytes (Ok _) = HeaderPasses f bytes
+HeaderChecked f bytes (Err r) = HeaderFails f bytes r

@@ -1,7 +1,7 @@
 -- How a list is laid out as the bytes of a sheet.
 use mathlib.Core.Path.{_≡_}
 use mathlib.Core.List.{List, [], _∷_, _++_}
-use Prim.Native.Nat.{ℕ, zero, suc, _/_, _%_, _^_, _<_}
+use Prim.Native.Nat.{ℕ, zero, suc, _+_, _*_, _/_, _%_, _^_, _<_}
 use lib.ListN.{length, getD}
 use Rattle.std.specs.declared.option.Option.{Option}
 use Rattle.std.specs.declared.option.Option.the-variants.{Some, None}
@@ -10,6 +10,10 @@ use Rattle.std.specs.declared.option.Option.the-variants.{Some, None}
 abbrev pub big-endian : ℕ → ℕ → List ℕ
 big-endian zero n = []
 big-endian (suc w) n = (n / 256 ^ w) % 256 ∷ big-endian w n
+
+-- the number that four bytes hold, the highest first
+abbrev pub four : ℕ → ℕ → ℕ → ℕ → ℕ
+four a b c d = a * 16777216 + b * 65536 + c * 256 + d
 
 -- what a sheet has to know of its elements: the byte that tells their kind, and the bytes of each
 pub record Format (E : Type 0) : Type 0 where

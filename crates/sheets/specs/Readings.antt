@@ -24,6 +24,11 @@ FallAt before xs (Some spot) = FirstFall before xs spot
 abbrev pub Filled : {E : Type 0} → List E → List E → List E → Type 0
 Filled xs was is = is ≡ xs ++ drop (length xs) was
 
+-- an answer told to a seat: a refusal becomes a fault of that seat
+abbrev pub for-seat : Option Seat → Result ℕ Refusal → Result ℕ SheetFault
+for-seat seat (Ok n) = Ok n
+for-seat seat (Err r) = Err (record { refusal = r; seat = seat })
+
 module _ {E : Type 0} (before : E → E → Bool) (f : Format E) (bytes : List ℕ) (was is : List E) where
   -- the answer by itself: a list and its length, or the refusal that decides
   abbrev pub Reads : Result ℕ Refusal → Type 0

@@ -1,4 +1,5 @@
 ghost use Rattle.sheets.specs.Formats.{delay-format};
+use crate::header::number_in;
 use crate::sheet_element::SheetElement;
 use elements::delay::Delay;
 use elements::delay_order::DelayOrdered;
@@ -19,7 +20,7 @@ pub impl SheetElement for Delay as DelaySheet {
             return None;
         };
         Some(Delay {
-            micros: u32::from_be_bytes([*a, *b, *c, *d]),
+            micros: number_in(*a, *b, *c, *d),
         })
     }
 }

@@ -6,7 +6,7 @@ use lib.ListN.{length, take, drop}
 use Rattle.std.proofs.shelf.Lists.{take-all}
 use Rattle.sheets.proofs.Bodies.{count-of, within-body}
 use Rattle.sheets.proofs.Loops.{fill-more}
-use Rattle.sheets.proofs.reader.fill.Needs as need
+use Rattle.sheets.proofs.body.fill.Needs as need
 
 pub loop-i-holds : need.loop-i-holds
 loop-i-holds g c xs e = refl

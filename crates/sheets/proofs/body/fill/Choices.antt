@@ -2,7 +2,7 @@ use mathlib.Core.List.{List, _++_}
 use mathlib.Core.Path.{_≡_}
 use lib.ListN.{take, drop}
 use Rattle.sheets.specs.Layouts.{packed}
-use Rattle.sheets.proofs.reader.fill.Given as given
+use Rattle.sheets.proofs.body.fill.Given as given
 
 -- the slice has the first i elements, and is as it was after them
 abbrev pub Inv-loop-i : given.InvT-loop-i

@@ -4,7 +4,7 @@ use mathlib.Core.List.{List}
 use mathlib.Core.Path.{_≡_}
 use lib.ListN.{getD}
 use Rattle.sheets.specs.Layouts.{packed}
-use Rattle.sheets.proofs.reader.first_fall.Given as given
+use Rattle.sheets.proofs.body.first_fall.Given as given
 
 -- no element up to i falls, and `last` is the one before i
 abbrev pub Inv-loop-i : given.InvT-loop-i
