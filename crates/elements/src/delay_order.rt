@@ -5,6 +5,13 @@ use crate::delay::Delay;
 use crate::ordered::Ordered;
 use crate::placed::Placed;
 
+/// The count that stands in where a delay is needed and none matters.
+fn sample_micros() -> u32
+    ensures { λ r. ⌜ r ≡ 0 ⌝ }
+{
+    u32::MIN
+}
+
 pub impl Ordered for Delay as DelayOrdered {
     ghost before = { λ x y. ltb (x .micros) (y .micros) };
 
@@ -15,7 +22,9 @@ pub impl Ordered for Delay as DelayOrdered {
     }
 
     fn some() -> Delay {
-        Delay { micros: 0 }
+        Delay {
+            micros: sample_micros(),
+        }
     }
 }
 
@@ -27,7 +36,7 @@ pub impl Placed for Delay as DelayPlaced {
     ghost highest = { 2 ^ 32 - 1 };
 
     fn lowest_place() -> u64 {
-        0
+        u64::MIN
     }
 
     fn highest_place() -> u64 {

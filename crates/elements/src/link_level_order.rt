@@ -5,6 +5,13 @@ use crate::link_level::LinkLevel;
 use crate::ordered::Ordered;
 use crate::placed::Placed;
 
+/// The link that stands in where a link level is needed and none matters; its level is then 0.
+fn sample_link() -> u32
+    ensures { λ r. ⌜ r ≡ 0 ⌝ }
+{
+    u32::MIN
+}
+
 pub impl Ordered for LinkLevel as LinkLevelOrdered {
     ghost before = { level-before };
 
@@ -21,7 +28,10 @@ pub impl Ordered for LinkLevel as LinkLevelOrdered {
     }
 
     fn some() -> LinkLevel {
-        LinkLevel { level: 0, link: 0 }
+        LinkLevel {
+            level: 0,
+            link: sample_link(),
+        }
     }
 }
 
@@ -33,7 +43,7 @@ pub impl Placed for LinkLevel as LinkLevelPlaced {
     ghost highest = { 2 ^ 64 - 1 };
 
     fn lowest_place() -> u64 {
-        0
+        u64::MIN
     }
 
     fn highest_place() -> u64 {

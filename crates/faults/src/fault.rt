@@ -1,7 +1,7 @@
 use crate::refusal::Refusal;
 
 /// Whom a call was made for: a side of a pair, or a seat of a group by its number from 1.
-#[derive(Clone, Copy, PartialEq, Eq, Debug)]
+#[derive(Clone, Copy)]
 pub enum Seat {
     A,
     B,
@@ -9,7 +9,7 @@ pub enum Seat {
 }
 
 /// The part of the unit that refused.
-#[derive(Clone, Copy, PartialEq, Eq, Debug)]
+#[derive(Clone, Copy)]
 pub enum Layer {
     Sheet,
     Seat,

@@ -1,13 +1,8 @@
-ghost use mathlib.Core.Path.{_≡_};
 use crate::fault::Layer;
 use crate::fault::Seat;
-use crate::fault::LayerDebug;
-use crate::fault::LayerPartialEq;
-use crate::fault::SeatDebug;
-use crate::fault::SeatPartialEq;
 
 /// What a fault tells, whatever layers it has come through.
-#[derive(Clone, Copy, PartialEq, Eq, Debug)]
+#[derive(Clone, Copy)]
 pub struct Notice {
     pub number: u8,
     pub layer: Layer,

@@ -9,46 +9,15 @@ use crate::fault::SheetFault;
 use crate::notice::Notice;
 use crate::refusal::Refusal;
 
-/// What faults of every layer have in common: each tells number, layer, seat and spot.
+/// A fault of any layer, which tells number, layer, seat and spot.
 pub trait Fault: Copy {
     ghost tells: { Self → Notice };
 
     fn notice(self) -> Notice
         ensures { λ r. ⌜ r ≡ tells self ⌝ };
-
-    fn number(self) -> u8
-    where
-        Self: Sized,
-        ensures { λ r. ⌜ r ≡ tells self .number ⌝ }
-    {
-        self.notice().number
-    }
-
-    fn layer(self) -> Layer
-    where
-        Self: Sized,
-        ensures { λ r. ⌜ r ≡ tells self .layer ⌝ }
-    {
-        self.notice().layer
-    }
-
-    fn seat(self) -> Option<Seat>
-    where
-        Self: Sized,
-        ensures { λ r. ⌜ r ≡ tells self .seat ⌝ }
-    {
-        self.notice().seat
-    }
-
-    fn spot(self) -> Option<u32>
-    where
-        Self: Sized,
-        ensures { λ r. ⌜ r ≡ tells self .spot ⌝ }
-    {
-        self.notice().spot
-    }
 }
 
+/// What is told of a refusal by a layer, for a seat.
 fn notice_of(refusal: Refusal, layer: Layer, seat: Option<Seat>) -> Notice
     ensures { λ r. ⌜ r ≡ notice-of refusal layer seat ⌝ }
 {

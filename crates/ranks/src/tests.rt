@@ -9,7 +9,7 @@ use std::test::*;
 fn refusal(answer: Result<u32, RunFault>) -> u8 {
     match answer {
         Ok(_) => 0,
-        Err(fault) => fault.number(),
+        Err(fault) => fault.notice().number,
     }
 }
 

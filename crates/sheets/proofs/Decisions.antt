@@ -183,8 +183,8 @@ module _ {E : Type 0} (before : E → E → Bool) (f : Format E) (bytes : List �
       (λ _ t. t (ap (λ (l : List ℕ). kind-of l) e)) (λ _ t. t (length xs) (a .not-long) long)
       (λ s _ t. no-fall law xs (t .0) b (t .1) up s (t .2))
       (λ _ t.
-          let same : xs ≡ t .0 = packed-apart f (law .fixed) (law .some) (law .distinct) xs (t .0) (b ∙ sym (t .1)) in
-          omega (arith, t .2, a .fits, ap length same)) q tt
+      let same : xs ≡ t .0 = packed-apart f (law .fixed) (law .some) (law .distinct) xs (t .0) (b ∙ sym (t .1)) in
+      omega (arith, t .2, a .fits, ap length same)) q tt
 
   -- one list at most may be accepted
   pub acceptable-one : Carried before f → (xs ys : List E) → Acceptable before f bytes room xs → Acceptable before f bytes room ys → xs ≡ ys

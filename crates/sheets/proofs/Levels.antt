@@ -30,7 +30,6 @@ twos-apart (pos m) (negsuc n) a b c d e = absurd (omega (arith, ints))
 twos-apart (negsuc m) (pos n) a b c d e = absurd (omega (arith, ints))
 twos-apart (negsuc m) (negsuc n) a b c d e = let f : m ≡ n = omega (arith, ints) in ap negsuc f
 
-
 -- the first half of eight bytes is the level, the second the link
 pub digits-of-eight : (bytes : List ℕ) → length bytes ≡ 8 → Bytes bytes →
     big-endian 4 (first-four bytes) ++ big-endian 4 (first-four (drop 4 bytes)) ≡ bytes

@@ -1,6 +1,6 @@
 //! Sheets: sealed lists of elements as bytes, and the reader that checks them.
-pub mod delay_sheet;
 mod body;
+pub mod delay_sheet;
 mod header;
 pub mod link_level_sheet;
 pub mod reader;

@@ -48,7 +48,11 @@ fn told_to(seat: Option<Seat>, read: Result<usize, Refusal>) -> Result<usize, Sh
 }
 
 /// Reads a sheet for a seat, or for none: fills the slice from its start and answers how many elements it read.
-pub fn read_sheet<T: SheetElement>(bytes: &[u8], seat: Option<Seat>, list: &mut [T]) -> Result<usize, SheetFault>
+pub fn read_sheet<T: SheetElement>(
+    bytes: &[u8],
+    seat: Option<Seat>,
+    list: &mut [T],
+) -> Result<usize, SheetFault>
     ensures answers { λ r. ⌜ Answers (T·Ordered .before) (T·SheetElement .format) (now (bytes .entry)) (now (list .entry)) (now (list .exit)) seat r ⌝ }
     ensures law { λ r. ⌜ ReaderLaw (T·Ordered .before) (T·SheetElement .format) (now (bytes .entry)) (now (list .entry)) (now (list .exit)) r ⌝ }
 {

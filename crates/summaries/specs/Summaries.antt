@@ -50,6 +50,6 @@ module _ {E : Type 0} (before : E → E → Bool) (f : Format E) (bytes : List �
   Checks (Ok s) = (xs : List E) × Acceptable before f bytes (length was) xs × Filled xs was is × Summarizes before xs s
   Checks (Err e) = Decides (Applies before f bytes (length was)) (e .refusal) × (e .seat ≡ None) × (is ≡ was)
 
-  -- every sheet that carries a list is answered by a summary of that list
-  abbrev pub AcceptsAll : Result (Summary E) SheetFault → Type 0
-  AcceptsAll r = (xs : List E) → Acceptable before f bytes (length was) xs → (s : Summary E) × (r ≡ Ok s) × Summarizes before xs s
+-- every sheet that carries a list is answered by a summary of that list
+abbrev pub AcceptsAll : {E : Type 0} → (E → E → Bool) → Format E → List ℕ → ℕ → Result (Summary E) SheetFault → Type 0
+AcceptsAll {E} before f bytes room r = (xs : List E) → Acceptable before f bytes room xs → (s : Summary E) × (r ≡ Ok s) × Summarizes before xs s

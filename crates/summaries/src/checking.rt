@@ -6,7 +6,7 @@ ghost use Rattle.sheets.specs.Formats.{level-format};
 ghost use Rattle.sheets.specs.Headers.{kind-of};
 ghost use Rattle.elements.specs.Orders.{NeverFalls};
 ghost use Rattle.summaries.specs.Reports.{ChecksEither, AcceptsEither};
-ghost use Rattle.summaries.specs.Summaries.{OfItsRank, Told, Checks, AcceptsAll};
+ghost use Rattle.summaries.specs.Summaries.{OfItsRank, Told, Summarizes, Checks, AcceptsAll};
 use crate::summary::AtRank;
 use crate::summary::Highlights;
 use crate::summary::Report;
@@ -16,13 +16,21 @@ use elements::delay_order::DelayOrdered;
 use elements::link_level::LinkLevel;
 use elements::link_level_order::LinkLevelOrdered;
 use elements::ordered::Ordered;
-use ranks::calls::median_rank;
 use faults::fault::SheetFault;
+use ranks::calls::median_rank;
 use ranks::calls::percentile_rank;
 use sheets::delay_sheet::DelaySheet;
 use sheets::link_level_sheet::LinkLevelSheet;
 use sheets::reader::read_sheet;
 use sheets::sheet_element::SheetElement;
+
+/// The element at a rank's index; ranks count from 1.
+fn element_at<T: Ordered>(list: &[T], rank: u32) -> T
+    requires { ⌜ 1 ≤ rank ⌝ ∗ ⌜ rank ≤ length (now list) ⌝ }
+    ensures { λ r. ⌜ r ≡ getD (now (list .entry)) (rank - 1) r ⌝ }
+{
+    list[rank as usize - 1]
+}
 
 /// The element of a rank, of a list in order.
 fn at_rank<T: Ordered>(list: &[T], rank: u32) -> AtRank<T>
@@ -32,10 +40,8 @@ fn at_rank<T: Ordered>(list: &[T], rank: u32) -> AtRank<T>
     ensures rank { λ r. ⌜ r .rank ≡ rank ⌝ }
     ensures element { λ r. ⌜ OfItsRank (T·Ordered .before) (now (list .entry)) r ⌝ }
 {
-    AtRank {
-        rank,
-        element: list[rank as usize - 1],
-    }
+    let element = element_at(list, rank);
+    AtRank { rank, element }
 }
 
 /// The elements of a list in order that are told, unless it is empty.
@@ -58,17 +64,24 @@ fn highlights<T: Ordered>(list: &[T], count: u32) -> Option<Highlights<T>>
     })
 }
 
+/// A list in order in short.
+fn sum_up<T: Ordered>(list: &[T]) -> Summary<T>
+    requires in_order { ⌜ NeverFalls (T·Ordered .before) (now list) ⌝ }
+    requires not_long { ⌜ length (now list) ≤ 65536 ⌝ }
+    ensures { λ r. ⌜ Summarizes (T·Ordered .before) (now (list .entry)) r ⌝ }
+{
+    let count = list.len() as u32;
+    let highlights = highlights(list, count);
+    Summary { count, highlights }
+}
+
 /// Reads a sheet of one type and sums its list up.
 pub fn summarize<T: SheetElement>(bytes: &[u8], list: &mut [T]) -> Result<Summary<T>, SheetFault>
     ensures checks { λ r. ⌜ Checks (T·Ordered .before) (T·SheetElement .format) (now (bytes .entry)) (now (list .entry)) (now (list .exit)) r ⌝ }
-    ensures accepts { λ r. ⌜ AcceptsAll (T·Ordered .before) (T·SheetElement .format) (now (bytes .entry)) (now (list .entry)) (now (list .exit)) r ⌝ }
+    ensures accepts { λ r. ⌜ AcceptsAll (T·Ordered .before) (T·SheetElement .format) (now (bytes .entry)) (length (now (list .entry))) r ⌝ }
 {
     let count = read_sheet(bytes, None, list)?;
-    let told = &list[0..count];
-    Ok(Summary {
-        count: count as u32,
-        highlights: highlights(told, count as u32),
-    })
+    Ok(sum_up(&list[0..count]))
 }
 
 /// Whether a sheet calls itself one of link levels.
@@ -82,7 +95,11 @@ fn calls_for_levels(bytes: &[u8]) -> bool
 }
 
 /// Reads a sheet of either kind and sums its list up; what calls itself neither is refused as a sheet of delays.
-pub fn check_sheet(bytes: &[u8], delays: &mut [Delay], levels: &mut [LinkLevel]) -> Result<Report, SheetFault>
+pub fn check_sheet(
+    bytes: &[u8],
+    delays: &mut [Delay],
+    levels: &mut [LinkLevel],
+) -> Result<Report, SheetFault>
     ensures checks { λ r. ⌜ ChecksEither (now (bytes .entry)) (now (delays .entry)) (now (delays .exit)) (now (levels .entry)) (now (levels .exit)) r ⌝ }
     ensures accepts { λ r. ⌜ AcceptsEither (now (bytes .entry)) (now (delays .entry)) (now (levels .entry)) r ⌝ }
 {

@@ -10,6 +10,6 @@ returns g c =
     let o : IsOrder (g .T·Ordered .before) = record { trichotomy = g .T·Ordered·met .trichotomy; transitive = g .T·Ordered·met .transitive } in
     record {
       rank = refl;
-      element = ranked-at o (c .args .rank) (c .args .list .now) (c .pre .in-order) (c .pre .first) (c .pre .last) (c .index-list-rank .result)
-          (λ d. sym (getD-read (c .args .list .now) _ (c .index-list-rank .result) (omega arith) (c .index-list-rank .is) d));
+      element = ranked-at o (c .args .rank) (c .args .list .now) (c .pre .in-order) (c .pre .first) (c .pre .last) (c .element-at-element .result)
+          (λ d. sym (getD-read (c .args .list .now) _ (c .element-at-element .result) (omega arith) (c .element-at-element .ensures) d));
     }

@@ -1,19 +1,20 @@
 use mathlib.Core.Path.{_≡_, refl, sym, ap, subst, _∙_}
 use mathlib.Core.List.{List}
+use Prim.Native.Nat.{_≤_}
 use lib.ListN.{length}
 use Rattle.elements.specs.Orders.{NeverFalls}
 use Rattle.std.proofs.shelf.Results.{err-from-errBy}
-use Rattle.summaries.specs.Summaries.{Told, Summarizes}
+use Rattle.summaries.specs.Summaries.{Summarizes}
 use Rattle.summaries.proofs.Fronts.{filled-front, not-ok}
 use Rattle.summaries.proofs.checking.summarize.Needs as need
 
-pub highlights-requires : need.highlights-requires
-highlights-requires g c κs =
+pub sum-up-requires : need.sum-up-requires
+sum-up-requires g c κs =
     let read = c .in-Continue-count .ensures tt .answers .1 in
     let same = filled-front (read .0) _ (c .read-sheet .last .list) (c .in-Continue-count .count) (read .2) (read .3) in
     record {
       in-order = subst (λ (l : List _). NeverFalls (g .T·Ordered .before) l) (sym same) (read .1 .in-order);
-      whole = read .2 ∙ ap length (sym same);
+      not-long = subst (λ (l : List _). length l ≤ 65536) (sym same) (read .1 .not-long);
     }
 
 pub returns : need.returns
@@ -21,11 +22,8 @@ returns g c =
     let told = c .in-Continue-count .ensures tt in
     let read = told .answers .1 in
     let same = filled-front (read .0) _ (c .read-sheet .last .list) (c .in-Continue-count .count) (read .2) (read .3) in
-    let Sums = λ (l : List _). Summarizes (g .T·Ordered .before) l (record { count = c .in-Continue-count .count; highlights = c .highlights .result }) in
-    let sums : Sums (read .0) = record {
-      count = read .2;
-      told = subst (λ (l : List _). Told (g .T·Ordered .before) l (c .highlights .result)) same (c .highlights .ensures);
-    } in
+    let Sums = λ (l : List _). Summarizes (g .T·Ordered .before) l (c .sum-up .result) in
+    let sums : Sums (read .0) = subst Sums same (c .sum-up .ensures) in
     record {
       checks = (read .0, read .1, read .3, sums);
       accepts = λ xs a. (_, refl, subst Sums (told .law .no-other (read .0) xs (read .1) a) sums);
