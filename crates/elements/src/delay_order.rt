@@ -1,6 +1,6 @@
 ghost use mathlib.Core.Path.{_≡_};
 ghost use Prim.Native.Nat.{ℕ, _^_, _-_};
-ghost use lib.Dec.{ltb, lit<};
+ghost use Rattle.elements.specs.Delays.{delay-before, delay-zero};
 use crate::delay::Delay;
 use crate::ordered::Ordered;
 use crate::placed::Placed;
@@ -13,9 +13,9 @@ fn sample_micros() -> u32
 }
 
 pub impl Ordered for Delay as DelayOrdered {
-    ghost before = { λ x y. ltb (x .micros) (y .micros) };
+    ghost before = { delay-before };
 
-    ghost sample = { record { micros = 0; fits = lit< tt } };
+    ghost sample = { delay-zero };
 
     fn is_before(self, other: Delay) -> bool {
         self.micros < other.micros

@@ -21,7 +21,8 @@ use Rattle.std.specs.declared.option.Option.the-variants.{None}
 use Rattle.std.specs.declared.result.Result.{Result}
 use Rattle.std.specs.declared.result.Result.the-variants.{Ok, Err}
 use Rattle.sheets.specs.Layouts.{Format, FixedWidth, Distinct, Complete, Bytes, packed, layout}
-use Rattle.sheets.specs.Headers.{version, stated-count, kind-of, most, HoldsElements, HeaderPasses, HeaderFails}
+use Rattle.sheets.specs.Headers.{version, stated-count, kind-of, most, HoldsElements}
+use Rattle.sheets.specs.HeaderChecks.{HeaderPasses, HeaderFails}
 use Rattle.sheets.specs.Refusals.{FirstFall, Body, Applies, Acceptable}
 use Rattle.faults.specs.declared.fault.Seat.{Seat}
 use Rattle.faults.specs.declared.fault.SheetFault.{SheetFault}

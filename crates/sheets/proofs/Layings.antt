@@ -7,7 +7,8 @@ use native.Mathlib.Nat.{mul-le-mul}
 use native.Mathlib.Omega.{arith}
 use lib.ListN.{length, getD, drop}
 use Rattle.sheets.specs.Layouts.{Format, FixedWidth, Distinct, Bytes, big-endian, packed, layout}
-use Rattle.sheets.specs.Headers.{version, stated-count, kind-of, most, HoldsElements, HeaderPasses}
+use Rattle.sheets.specs.Headers.{stated-count, most}
+use Rattle.sheets.specs.HeaderChecks.{HeaderPasses}
 use Rattle.sheets.proofs.Digits.{digits-of-four, four-of-digits}
 use Rattle.sheets.proofs.Bodies.{length-packed, packed-apart}
 

@@ -31,6 +31,7 @@ module _ {E : Type 0} (before : E → E → Bool) (f : Format E) (bytes : List �
   Applies BodyNotAList = (n : ℕ) → n ≤ most → HoldsElements f bytes n → ⊥
   Applies (OutOfOrder spot) = (xs : List E) × Body f bytes xs × FirstFall before xs spot
   Applies SliceTooShort = (xs : List E) × Body f bytes xs × (room < length xs)
+  -- the others are no refusals of a sheet
   Applies SeatsOutOfBounds = ⊥
   Applies ListTooLong = ⊥
   Applies RangeNotPlaces = ⊥

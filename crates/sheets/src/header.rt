@@ -1,5 +1,5 @@
 ghost use mathlib.Core.Path.{_≡_};
-ghost use Rattle.sheets.specs.Headers.{HeaderChecked};
+ghost use Rattle.sheets.specs.HeaderChecks.{HeaderChecked};
 ghost use Rattle.sheets.specs.Layouts.{four};
 use crate::reader::MOST_ELEMENTS;
 use crate::sheet_element::SheetElement;

@@ -21,6 +21,8 @@ use Rattle.ranks.specs.Percentiles.{median-rank, percentile-rank, out-of-bounds
 use Rattle.sheets.specs.Layouts.{layout}
 use Rattle.sheets.specs.Formats.{delay-format, level-format}
 use Rattle.summaries.specs.Words.{report-shown}
+use Rattle.summaries.specs.declared.summary.AtRank.{AtRank}
+use Rattle.summaries.specs.declared.summary.Report.{Report}
 use Rattle.summaries.specs.declared.summary.Report.the-variants.{Delays}
 
 abbrev forty : Delay
@@ -66,9 +68,20 @@ pub record Percentiles : Type 0 where
   pub ninetieth-of-6 : percentile-rank 90 6 ≡ Ok 5
   pub hundredth : percentile-rank 100 6 ≡ out-of-bounds
 
+abbrev at : ℕ → Delay → AtRank Delay
+at rank x = record { rank = rank; element = x }
+
+-- a report on the delays 40, 300, 300
+abbrev three-delays : Report
+three-delays = Delays (record {
+  count = 3;
+  highlights = Some (record { lowest = at 1 forty; median = at 2 three-hundred; ninetieth = at 2 three-hundred; highest = at 3 three-hundred });
+})
+
 pub record Lines : Type 0 where
   pub of-sheet : notice-line (run-notice (OfSeat (OfSheet (record { refusal = OutOfOrder 3; seat = Some B })))) ≡ codes "refused 6 sheet B 3"
   pub of-seat : notice-line (run-notice (OfSeat (Own (OutsideRange 2) (Some (Numbered 16))))) ≡ codes "refused 12 seat 16 2"
   pub of-run : notice-line (run-notice (OwnRun Impossible (Some A))) ≡ codes "refused 14 run A -"
   pub of-rank-call : notice-line (run-notice (OwnRun RankOutOfBounds None)) ≡ codes "refused 11 run - -"
   pub of-empty-list : report-shown (Delays (record { count = 0; highlights = None })) ≡ Some (codes "kind: delays\nelements: 0 (the list is empty)")
+  pub of-report : report-shown three-delays ≡ Some (codes "kind: delays\nelements: 3\nlowest: 40 (rank 1)\nmedian: 300 (rank 2)\n90th percentile: 300 (rank 2)\nhighest: 300 (rank 3)")

@@ -15,5 +15,5 @@ returns c = record {
     repeats-kept = record { first = lit≤ tt; last = lit≤ tt; is = λ d. refl };
   };
   percentiles = record { median-of-11 = refl; median-of-none = refl; fiftieth-of-11 = refl; raised-to-1 = refl; ninetieth-of-6 = refl; hundredth = refl };
-  lines = record { of-sheet = refl; of-seat = refl; of-run = refl; of-rank-call = refl; of-empty-list = refl };
+  lines = record { of-sheet = refl; of-seat = refl; of-run = refl; of-rank-call = refl; of-empty-list = refl; of-report = refl };
 }
