@@ -1,15 +1,16 @@
 -- An order that agrees with places, one to an element, keeps the laws.
-use mathlib.Core.Path.{_≡_, refl, sym, ap, subst, _∙_}
-use mathlib.Core.Bool.{Bool, true, false}
-use mathlib.Core.Logic.{_⊎_, inl, inr, ⊎-elim}
-use Prim.Native.Nat.{ℕ, suc, _<_, _≤_}
+use mathlib.Core.Path.{_≡_, sym, ap, _∙_}
+use mathlib.Core.Bool.{Bool, true}
+use mathlib.Core.Logic.{inl, inr, ⊎-elim}
+use Prim.Native.Nat.{ℕ, suc, _<_}
 use native.Mathlib.Omega.{arith}
-use lib.Dec.{ltb, leb}
+use lib.Dec.{ltb}
 use Rattle.std.proofs.shelf.Ways.{leb-tells, tells}
 use Rattle.elements.specs.Orders.{ExactlyOne, Trichotomy, Transitive, PlacesAgree}
 
-pub numbers-one : (a b : ℕ) (P : Type 0) → (a ≡ b → P) → (P → a ≡ b) → ExactlyOne (ltb a b ≡ true) (ltb b a ≡ true) P
-numbers-one a b P make read =
+-- of two numbers exactly one holds of first smaller, second smaller, and what equality stands for
+pub numbers-trichotomy : (a b : ℕ) (P : Type 0) → (a ≡ b → P) → (P → a ≡ b) → ExactlyOne (ltb a b ≡ true) (ltb b a ≡ true) P
+numbers-trichotomy a b P make read =
     ⊎-elim
     (λ l. inl (l .0, (λ r. grind (arith, tells)), (λ p. let e : a ≡ b = read p in let h : a < b = l .1 in omega arith)))
     (λ l. ⊎-elim
@@ -18,12 +19,12 @@ numbers-one a b P make read =
     (leb-tells (suc b) a))
     (leb-tells (suc a) b)
 
-pub numbers-steps : (a b c : ℕ) → ltb a b ≡ true → ltb b c ≡ true → ltb a c ≡ true
-numbers-steps a b c p q = grind (arith, tells)
+pub numbers-transitive : (a b c : ℕ) → ltb a b ≡ true → ltb b c ≡ true → ltb a c ≡ true
+numbers-transitive a b c p q = grind (arith, tells)
 
 module _ {E : Type 0} (before : E → E → Bool) (place : E → ℕ) (agrees : PlacesAgree before place) where
-  pub one-by-places : ((x y : E) → place x ≡ place y → x ≡ y) → Trichotomy before
-  one-by-places apart x y = rw (agrees x y, agrees y x) (numbers-one (place x) (place y) (x ≡ y) (apart x y) (ap place))
+  pub trichotomy-by-places : ((x y : E) → place x ≡ place y → x ≡ y) → Trichotomy before
+  trichotomy-by-places apart x y = rw (agrees x y, agrees y x) (numbers-trichotomy (place x) (place y) (x ≡ y) (apart x y) (ap place))
 
-  pub steps-by-places : Transitive before
-  steps-by-places x y z p q = agrees x z ∙ numbers-steps (place x) (place y) (place z) (sym (agrees x y) ∙ p) (sym (agrees y z) ∙ q)
+  pub transitive-by-places : Transitive before
+  transitive-by-places x y z p q = agrees x z ∙ numbers-transitive (place x) (place y) (place z) (sym (agrees x y) ∙ p) (sym (agrees y z) ∙ q)

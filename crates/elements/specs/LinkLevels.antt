@@ -2,7 +2,7 @@
 use mathlib.Core.Bool.{Bool, true, false, cond}
 use Prim.Native.Nat.{ℕ, _+_, _*_, _^_}
 use lib.Dec.{ltb, lit<}
-use lib.IntN.{ℤ, pos, negsuc, _+ℤ_, natAbs}
+use lib.IntN.{ℤ, pos, _+ℤ_, natAbs}
 use lib.Signed.{ltZ}
 use Rattle.elements.specs.declared.link_level.LinkLevel.{LinkLevel}
 

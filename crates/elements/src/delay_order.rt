@@ -1,5 +1,5 @@
 ghost use mathlib.Core.Path.{_≡_};
-ghost use Prim.Native.Nat.{ℕ, _^_, _-_};
+ghost use Prim.Native.Nat.{_^_, _-_};
 ghost use Rattle.elements.specs.Delays.{delay-before, delay-zero};
 use crate::delay::Delay;
 use crate::ordered::Ordered;

@@ -1,5 +1,5 @@
 ghost use mathlib.Core.Path.{_≡_};
-ghost use mathlib.Core.Bool.{Bool, true};
+ghost use mathlib.Core.Bool.{true};
 ghost use Rattle.elements.specs.Entries.{entry-before, lesser-entry, MarksOutside};
 ghost use Rattle.elements.specs.declared.entry.Entry.the-variants.{Element};
 use crate::entry::Entry;

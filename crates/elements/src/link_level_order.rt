@@ -1,5 +1,5 @@
 ghost use mathlib.Core.Path.{_≡_};
-ghost use Prim.Native.Nat.{ℕ, _^_, _-_};
+ghost use Prim.Native.Nat.{_^_, _-_};
 ghost use Rattle.elements.specs.LinkLevels.{level-before, level-place, level-zero};
 use crate::link_level::LinkLevel;
 use crate::ordered::Ordered;

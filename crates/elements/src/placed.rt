@@ -1,5 +1,4 @@
 ghost use mathlib.Core.Path.{_≡_};
-ghost use mathlib.Core.Bool.{Bool};
 ghost use Prim.Native.Nat.{ℕ, _^_, _<_, _≤_};
 ghost use lib.Dec.{ltb};
 ghost use Rattle.elements.specs.Orders.{PlacesAgree, OneElementEach, AtPlace};

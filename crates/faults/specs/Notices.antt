@@ -1,8 +1,6 @@
 -- What a fault of each layer tells: the refusal's number, the layer that refused, the seat and the spot.
 use mathlib.Core.Path.{_≡_}
-use Prim.Native.Nat.{ℕ}
 use Rattle.std.specs.declared.option.Option.{Option}
-use Rattle.std.specs.declared.option.Option.the-variants.{Some, None}
 use Rattle.faults.specs.declared.refusal.Refusal.{Refusal}
 use Rattle.faults.specs.declared.fault.Seat.{Seat as Whose}
 use Rattle.faults.specs.declared.fault.Layer.{Layer}

@@ -1,5 +1,5 @@
 -- How a notice is printed, byte by byte: refused, number, layer, seat or -, spot or -.
-use mathlib.Core.List.{List, [], _∷_, _++_}
+use mathlib.Core.List.{List, _++_}
 use Prim.Native.Nat.{ℕ}
 use lib.Chars.{codes}
 use Rattle.std.specs.Written.{decimal}

@@ -1,4 +1,3 @@
-ghost use mathlib.Core.Path.{_≡_};
 ghost use Rattle.faults.specs.Notices.{SeatKeepsSheet, RunKeepsSeat};
 use crate::fault::RunFault;
 use crate::fault::SeatFault;

@@ -1,4 +1,3 @@
-ghost use lib.Chars.{codes};
 ghost use Rattle.std.specs.declared.option.Option.the-variants.{Some};
 ghost use Rattle.faults.specs.Notices.{sheet-notice, seat-notice, run-notice};
 ghost use Rattle.faults.specs.Words.{layer-word, seat-word, shown-or-dash, notice-line};

@@ -11,8 +11,9 @@ use std::io::Read;
 use summaries::checking::check_sheet;
 use summaries::printing::ReportDisplay;
 
-/// One byte more than the longest sheet has, so that a longer one is seen to be too long.
-const MOST_BYTES: u64 = 524_295;
+/// One byte more than the longest sheet has, so that a longer one is seen to be too long: a header of 6 bytes, and
+/// 65,536 elements of 8.
+const MOST_BYTES: u64 = 6 + 65_536 * 8 + 1;
 
 fn main(rt: LibcRuntime) -> Result<(), AnyError> {
     let heap = rt.alloc();

@@ -1,7 +1,7 @@
 -- Which refusal decides, and that a sheet is acceptable exactly if none applies.
 use mathlib.Core.Path.{_≡_, refl, sym, ap, subst, _∙_}
 use mathlib.Core.Bool.{Bool, true, false}
-use mathlib.Core.List.{List, [], _∷_, _++_}
+use mathlib.Core.List.{List}
 use mathlib.Core.Logic.{_⊎_, inl, inr}
 use Prim.Native.Nat.{ℕ, suc, _+_, _*_, _-_, _/_, _%_, _≤_, _<_}
 use native.Mathlib.Nat.{suc-mul, mul-le-mul-right, mul-mod-left, div-add-mod'}
@@ -20,15 +20,15 @@ use Rattle.std.specs.declared.option.Option.{Option}
 use Rattle.std.specs.declared.option.Option.the-variants.{None}
 use Rattle.std.specs.declared.result.Result.{Result}
 use Rattle.std.specs.declared.result.Result.the-variants.{Ok, Err}
-use Rattle.sheets.specs.Layouts.{Format, FixedWidth, Distinct, Complete, Bytes, packed, layout}
-use Rattle.sheets.specs.Headers.{version, stated-count, kind-of, most, HoldsElements}
+use Rattle.sheets.specs.Layouts.{Format, FixedWidth, Distinct, Complete, Bytes, packed}
+use Rattle.sheets.specs.Headers.{version, stated-count, kind-of, most}
 use Rattle.sheets.specs.HeaderChecks.{HeaderPasses, HeaderFails}
 use Rattle.sheets.specs.Refusals.{FirstFall, Body, Applies, Acceptable}
 use Rattle.faults.specs.declared.fault.Seat.{Seat}
 use Rattle.faults.specs.declared.fault.SheetFault.{SheetFault}
 use Rattle.sheets.specs.Readings.{FallAt, Filled, for-seat, Reads, Answers, ReaderLaw}
 use Rattle.sheets.proofs.Bodies.{packed-apart, bytes-drop, some-list}
-use Rattle.sheets.proofs.Layings.{layout-long, layout-counted, layouts-apart, laid-out}
+use Rattle.sheets.proofs.LayoutFacts.{layout-long, layout-counted, layouts-apart, laid-out}
 
 -- what a type that is carried on sheets owes
 pub record Carried {E : Type 0} (before : E → E → Bool) (f : Format E) : Type 0 where

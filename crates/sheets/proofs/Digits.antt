@@ -1,9 +1,9 @@
 -- Four bytes and the number that they hold.
-use mathlib.Core.Path.{_≡_, refl, sym, ap, _∙_}
+use mathlib.Core.Path.{_≡_, sym, ap, _∙_}
 use mathlib.Core.List.{List, [], _∷_, _++_}
 use Prim.Native.Nat.{ℕ, _+_, _*_, _/_, _%_, _^_, _<_}
 use native.Mathlib.Omega.{arith}
-use lib.ListN.{length, getD, take, drop}
+use lib.ListN.{length, getD}
 use Rattle.sheets.specs.Layouts.{big-endian, four, Bytes}
 
 pub digits-of-four : (a b c d : ℕ) → a < 256 → b < 256 → c < 256 → d < 256 → big-endian 4 (four a b c d) ≡ a ∷ b ∷ c ∷ d ∷ []

@@ -2,5 +2,5 @@ pub mod Digits
 pub mod Levels
 pub mod Bodies
 pub mod Loops
-pub mod Layings
+pub mod LayoutFacts
 pub mod Decisions

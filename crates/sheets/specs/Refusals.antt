@@ -1,7 +1,7 @@
 -- The conditions under which a sheet is refused, and the condition under which it is accepted.
 use mathlib.Core.Path.{_≡_}
 use mathlib.Core.Bool.{Bool, true, false}
-use mathlib.Core.List.{List, _++_}
+use mathlib.Core.List.{List}
 use Prim.Native.Nat.{ℕ, suc, _-_, _≤_, _<_}
 use lib.ListN.{length, getD, drop}
 use Rattle.elements.specs.Orders.{NeverFalls}

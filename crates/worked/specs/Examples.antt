@@ -1,13 +1,13 @@
 -- Worked examples of the definitions.
 use mathlib.Core.Path.{_≡_}
-use mathlib.Core.List.{List, [], _∷_, _++_}
+use mathlib.Core.List.{List, [], _∷_}
 use Prim.Native.Nat.{ℕ, _-_, _^_}
 use lib.Chars.{codes}
 use lib.Dec.{ltb, lit<}
 use lib.IntN.{pos, negsuc}
 use Rattle.std.specs.declared.option.Option.the-variants.{Some, None}
-use Rattle.std.specs.declared.result.Result.the-variants.{Ok, Err}
-use Rattle.faults.specs.Notices.{sheet-notice, seat-notice, run-notice}
+use Rattle.std.specs.declared.result.Result.the-variants.{Ok}
+use Rattle.faults.specs.Notices.{run-notice}
 use Rattle.faults.specs.Words.{notice-line}
 use Rattle.faults.specs.declared.refusal.Refusal.the-variants.{OutOfOrder, OutsideRange, RankOutOfBounds, Impossible}
 use Rattle.faults.specs.declared.fault.Seat.the-variants.{A, B, Numbered}

@@ -1,11 +1,11 @@
-use mathlib.Core.Path.{_≡_, refl, sym, ap, subst, _∙_}
+use mathlib.Core.Path.{refl, sym, subst}
 use mathlib.Core.List.{List}
 use Prim.Native.Nat.{_≤_}
 use lib.ListN.{length}
 use Rattle.elements.specs.Orders.{NeverFalls}
 use Rattle.std.proofs.shelf.Results.{err-from-errBy}
 use Rattle.summaries.specs.Summaries.{Summarizes}
-use Rattle.summaries.proofs.Fronts.{filled-front, not-ok}
+use Rattle.summaries.proofs.FilledSlices.{filled-front, not-ok}
 use Rattle.summaries.proofs.checking.summarize.Needs as need
 
 pub sum-up-requires : need.sum-up-requires

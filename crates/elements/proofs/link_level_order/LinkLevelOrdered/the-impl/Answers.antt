@@ -1,10 +1,10 @@
 use Rattle.elements.specs.LinkLevels.{level-before, level-place}
-use Rattle.elements.proofs.ByPlaces.{one-by-places, steps-by-places}
-use Rattle.elements.proofs.Alike.{level-agrees, level-apart}
+use Rattle.elements.proofs.ByPlaces.{trichotomy-by-places, transitive-by-places}
+use Rattle.elements.proofs.LevelPlaces.{level-agrees, level-apart}
 use Rattle.elements.proofs.link_level_order.LinkLevelOrdered.the-impl.Needs as need
 
 pub trichotomy-law : need.trichotomy-law
-trichotomy-law = one-by-places level-before level-place level-agrees level-apart
+trichotomy-law = trichotomy-by-places level-before level-place level-agrees level-apart
 
 pub transitive-law : need.transitive-law
-transitive-law = steps-by-places level-before level-place level-agrees
+transitive-law = transitive-by-places level-before level-place level-agrees

@@ -1,6 +1,6 @@
 use mathlib.Core.Path.{sym, _∙_}
 use native.Mathlib.Omega.{arith}
-use Rattle.elements.proofs.Alike.{level-agrees, level-apart, level-at}
+use Rattle.elements.proofs.LevelPlaces.{level-agrees, level-apart, level-at}
 use Rattle.elements.proofs.link_level_order.LinkLevelPlaced.the-impl.Needs as need
 
 pub agrees-law : need.agrees-law

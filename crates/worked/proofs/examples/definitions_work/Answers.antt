@@ -1,7 +1,7 @@
 use mathlib.Core.Path.{refl}
 use lib.Dec.{lit<, lit≤}
 use Rattle.std.specs.Written.{digits}
-use Rattle.worked.proofs.definitions_work.Needs as need
+use Rattle.worked.proofs.examples.definitions_work.Needs as need
 
 pub returns : need.returns
 unfolding digits

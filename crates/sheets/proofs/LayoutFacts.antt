@@ -1,11 +1,10 @@
 -- The layout of a list: its six first bytes, and that bytes with a right header are one.
-use mathlib.Core.Path.{_≡_, refl, sym, ap, subst, _∙_}
-use mathlib.Core.Bool.{Bool}
-use mathlib.Core.List.{List, [], _∷_, _++_}
+use mathlib.Core.Path.{_≡_, ap, _∙_}
+use mathlib.Core.List.{List, [], _∷_}
 use Prim.Native.Nat.{ℕ, suc, _+_, _*_, _-_, _^_, _≤_, _<_}
 use native.Mathlib.Nat.{mul-le-mul}
 use native.Mathlib.Omega.{arith}
-use lib.ListN.{length, getD, drop}
+use lib.ListN.{length, drop}
 use Rattle.sheets.specs.Layouts.{Format, FixedWidth, Distinct, Bytes, big-endian, packed, layout}
 use Rattle.sheets.specs.Headers.{stated-count, most}
 use Rattle.sheets.specs.HeaderChecks.{HeaderPasses}
