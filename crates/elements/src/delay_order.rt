@@ -3,14 +3,8 @@ ghost use Prim.Native.Nat.{_^_, _-_};
 ghost use Rattle.elements.specs.Delays.{delay-before, delay-zero};
 use crate::delay::Delay;
 use crate::ordered::Ordered;
+use crate::ordered::sample_number;
 use crate::placed::Placed;
-
-/// The count that stands in where a delay is needed and none matters.
-fn sample_micros() -> u32
-    ensures { λ r. ⌜ r ≡ 0 ⌝ }
-{
-    u32::MIN
-}
 
 pub impl Ordered for Delay as DelayOrdered {
     ghost before = { delay-before };
@@ -23,7 +17,7 @@ pub impl Ordered for Delay as DelayOrdered {
 
     fn some() -> Delay {
         Delay {
-            micros: sample_micros(),
+            micros: sample_number(),
         }
     }
 }

@@ -3,14 +3,8 @@ ghost use Prim.Native.Nat.{_^_, _-_};
 ghost use Rattle.elements.specs.LinkLevels.{level-before, level-place, level-zero};
 use crate::link_level::LinkLevel;
 use crate::ordered::Ordered;
+use crate::ordered::sample_number;
 use crate::placed::Placed;
-
-/// The link that stands in where a link level is needed and none matters; its level is then 0.
-fn sample_link() -> u32
-    ensures { λ r. ⌜ r ≡ 0 ⌝ }
-{
-    u32::MIN
-}
 
 pub impl Ordered for LinkLevel as LinkLevelOrdered {
     ghost before = { level-before };
@@ -30,7 +24,7 @@ pub impl Ordered for LinkLevel as LinkLevelOrdered {
     fn some() -> LinkLevel {
         LinkLevel {
             level: 0,
-            link: sample_link(),
+            link: sample_number(),
         }
     }
 }

@@ -19,3 +19,10 @@ pub trait Ordered: Copy {
     fn some() -> Self
         ensures { λ r. ⌜ r ≡ sample ⌝ };
 }
+
+/// The number in the sample elements of the types here.
+pub(crate) fn sample_number() -> u32
+    ensures { λ r. ⌜ r ≡ 0 ⌝ }
+{
+    u32::MIN
+}
