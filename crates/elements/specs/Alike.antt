@@ -2,7 +2,7 @@
 use Rattle.std.specs.Prelude.{◌≡◌, ℕ, ◌-◌, ◌^◌, ◌<◌, ℤ, pos, negsuc, ◌≤ℤ◌}
 use Rattle.std.proofs.Common.{subst, ◌∙◌}
 use Rattle.std.proofs.Math.Bridge.{le_prop}
-use denote.Struct.Props.{≤ℤ_prop}
+use Rattle.std.proofs.Props.{props}
 use Rattle.elements.specs.declared.delay.Delay.{Delay}
 use Rattle.elements.specs.declared.link_level.LinkLevel.{LinkLevel}
 
@@ -19,6 +19,8 @@ pub level_alike : (x y : LinkLevel) → x.level ≡ y.level → x.link ≡ y.lin
 level_alike x y e f =
     let P : ℤ → Type 0 = λ a. (p : negsuc (2 ^ 31 - 1) ≤ℤ a) (q : a ≤ℤ pos (2 ^ 31 - 1)) → x ≡ made a x.link p q x.fits in
     let Q : ℕ → Type 0 = λ b. (r : b < 2 ^ 32) → x ≡ made y.level b y.low y.high r in
+    let lows : IsProp (negsuc (2 ^ 31 - 1) ≤ℤ x.level) = hlevel props in
+    let highs : IsProp (x.level ≤ℤ pos (2 ^ 31 - 1)) = hlevel props in
     let here : x ≡ made y.level x.link y.low y.high x.fits
-    = subst P e (λ p q i. made x.level x.link (≤ℤ_prop x.low p i) (≤ℤ_prop x.high q i) x.fits) y.low y.high in
+    = subst P e (λ p q i. made x.level x.link (lows x.low p i) (highs x.high q i) x.fits) y.low y.high in
     subst Q f (λ r. here ∙ (λ i. made y.level x.link y.low y.high (le_prop x.fits r i))) y.fits

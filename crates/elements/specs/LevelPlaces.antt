@@ -1,9 +1,9 @@
 -- The places of link levels.
 use Rattle.std.specs.Prelude.{◌≡◌, ℕ, ◌+◌, ◌-◌, ◌*◌, ◌/◌, ◌%◌, ◌^◌, ◌<◌, ℤ, pos, negsuc, ◌+ℤ◌, ◌≤ℤ◌, unsigned_abs}
-use Rattle.std.proofs.Common.{ap, ◌∙◌, arith}
+use Rattle.std.proofs.Common.{sym, ap, ◌∙◌, arith}
 use Rattle.std.proofs.lemmas.Bool.Decides.{nat_tests}
 use Rattle.std.proofs.lemmas.Int.{ints}
-use Rattle.elements.specs.Orders.{PlacesAgree}
+use Rattle.elements.specs.Orders.{PlacesAgree, OneElementEach}
 use Rattle.elements.specs.LinkLevels.{level_before, level_place}
 use Rattle.elements.specs.declared.link_level.LinkLevel.{LinkLevel}
 use Rattle.elements.specs.Alike.{made, level_alike}
@@ -31,3 +31,7 @@ level_at n h =
     let r : n % 2 ^ 32 < 2 ^ 32 = omega arith in
     let e : unsigned_abs (a +ℤ pos (2 ^ 31)) ≡ n / 2 ^ 32 = omega (arith, ints) in
     (made a (n % 2 ^ 32) p q r, ap (λ k. k * 2 ^ 32 + n % 2 ^ 32) e ∙ omega arith)
+
+-- each is the place of one link level
+pub levels_complete : OneElementEach level_place 0 (2 ^ 64 - 1)
+levels_complete n p q = let x = level_at n (omega arith) in (x.0, x.1, λ y e. level_apart y x.0 (e ∙ sym x.1))

@@ -7,3 +7,4 @@ pub mod ByPlaces
 pub mod Alike
 pub mod EntryLaws
 pub mod LevelPlaces
+pub mod DelayPlaces

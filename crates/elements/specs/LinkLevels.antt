@@ -1,5 +1,5 @@
 -- The order of link levels, and their places.
-use Rattle.std.specs.Prelude.{ℕ, ◌+◌, ◌*◌, ◌^◌, Bool, true, false, cond, ℤ, pos, ◌+ℤ◌, int_lt, nat_lt, unsigned_abs}
+use Rattle.std.specs.Prelude.{ℕ, ◌+◌, ◌*◌, ◌^◌, Bool, true, false, cond, pos, ◌+ℤ◌, int_lt, nat_lt, unsigned_abs}
 use Rattle.std.proofs.Common.{lit<}
 use Rattle.elements.specs.declared.link_level.LinkLevel.{LinkLevel}
 

@@ -2,7 +2,8 @@ ghost use Rattle.std.specs.Prelude.{◌≡◌, ◌-◌, ◌^◌, refl};
 ghost use Rattle.elements.specs.Delays.{delay_before, delay_zero};
 ghost use Rattle.elements.specs.ByPlaces.{trichotomy_by_places};
 ghost use Rattle.elements.specs.Alike.{delay_alike};
-ghost use Rattle.std.proofs.Common.{rules, arith};
+ghost use Rattle.elements.specs.DelayPlaces.{delays_complete};
+ghost use Rattle.std.proofs.Common.{rules};
 
 use crate::delay::Delay;
 use crate::ordered::{Ordered, sample_number};
@@ -15,7 +16,7 @@ impl Ordered for Delay {
 
     ghost trichotomy = { trichotomy_by_places delay_before (λ x. x.micros) (λ x y. refl) delay_alike };
 
-    ghost transitive = { first_of (Prim.search rules, Prim.grind (arith, Self.row.coded.inj)) };
+    ghost transitive = { Prim.search rules };
 
     fn is_before(self, other: Delay) -> bool {
         self.micros < other.micros
@@ -35,13 +36,13 @@ impl Placed for Delay {
 
     ghost highest = { 2 ^ 32 - 1 };
 
-    ghost agrees = { first_of (Prim.search rules, Prim.grind (arith, Self.row.coded.inj)) };
+    ghost agrees = { Prim.search rules };
 
-    ghost fits = { first_of (Prim.search rules, Prim.grind (arith, Self.row.coded.inj)) };
+    ghost fits = { Prim.search rules };
 
-    ghost within = { first_of (Prim.search rules, Prim.grind (arith, Self.row.coded.inj)) };
+    ghost within = { Prim.search rules };
 
-    ghost complete = { λ n p q. let x : _ = record { micros = n; fits = omega arith } in (x, refl, λ y e. delay_alike y x e) };
+    ghost complete = { delays_complete };
 
     fn lowest_place() -> u64 {
         u64::MIN

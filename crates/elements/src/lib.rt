@@ -1,4 +1,6 @@
 //! The elements of lists: ordered and placed types, two of them, and entries, which are elements between two marks.
+#![tactic(auto)]
+
 pub mod delay;
 pub mod delay_order;
 pub mod entry;

@@ -1,8 +1,8 @@
 ghost use Rattle.std.specs.Prelude.{◌≡◌, ◌-◌, ◌^◌};
-ghost use Rattle.std.proofs.Common.{sym, ◌∙◌, arith, rules};
+ghost use Rattle.std.proofs.Common.{rules};
 ghost use Rattle.elements.specs.LinkLevels.{level_before, level_place, level_zero};
 ghost use Rattle.elements.specs.ByPlaces.{trichotomy_by_places, transitive_by_places};
-ghost use Rattle.elements.specs.LevelPlaces.{level_agrees, level_apart, level_at};
+ghost use Rattle.elements.specs.LevelPlaces.{level_agrees, level_apart, levels_complete};
 
 use crate::link_level::LinkLevel;
 use crate::ordered::{Ordered, sample_number};
@@ -44,11 +44,11 @@ impl Placed for LinkLevel {
 
     ghost agrees = { level_agrees };
 
-    ghost fits = { first_of (Prim.search rules, Prim.grind (arith, Self.row.coded.inj)) };
+    ghost fits = { Prim.search rules };
 
-    ghost within = { first_of (Prim.search rules, Prim.grind (arith, Self.row.coded.inj)) };
+    ghost within = { Prim.search rules };
 
-    ghost complete = { λ n p q. let x = level_at n (omega arith) in (x.0, x.1, λ y e. level_apart y x.0 (e ∙ sym x.1)) };
+    ghost complete = { levels_complete };
 
     fn lowest_place() -> u64 {
         u64::MIN

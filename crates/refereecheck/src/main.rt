@@ -1,4 +1,6 @@
 //! Plays questions against a pile of every kind of referee until it is empty, and prints each with what came of it.
+#![tactic(auto)]
+
 use elements::entry::Entry;
 use elements::link_level::LinkLevel;
 use piles::playing::{PileNumbers, play_on_pile};

@@ -1,5 +1,7 @@
 //! What a referee is: whoever compares two entries or weighs a group's counts, tells the outcome, and uses one question
 //! of a stock.
+#![tactic(auto)]
+
 pub mod asking;
 pub mod lent;
 pub mod printing;

@@ -1,4 +1,6 @@
 //! Reads a table of sheets, right ones and wrong ones, and prints what the reader answers and leaves in the slice.
+#![tactic(auto)]
+
 use elements::delay::Delay;
 use elements::link_level::LinkLevel;
 use faults::fault::Seat;

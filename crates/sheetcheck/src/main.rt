@@ -1,4 +1,6 @@
 //! Reads one sheet from standard input and prints what is in it, or why it is refused.
+#![tactic(auto)]
+
 use elements::delay::Delay;
 use elements::link_level::LinkLevel;
 use elements::ordered::Ordered;

@@ -1,4 +1,6 @@
 //! Sheets: sealed lists of elements as bytes, and the reader that checks them.
+#![tactic(auto)]
+
 mod body;
 pub mod delay_sheet;
 mod header;

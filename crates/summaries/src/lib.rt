@@ -1,4 +1,6 @@
 //! What a planner is told of a sheet: its kind, how many elements it has, and the elements at some ranks.
+#![tactic(auto)]
+
 pub mod checking;
 pub mod printing;
 pub mod summary;
