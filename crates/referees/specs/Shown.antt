@@ -1,5 +1,4 @@
 -- How a question takes an entry: as its sort and an element.
-use Rattle.std.specs.Prelude.{◌≡◌}
 use Rattle.elements.specs.declared.entry.Entry.{Entry}
 use Rattle.elements.specs.declared.entry.Entry.TheVariants.{Below, Element, Above}
 use Rattle.referees.specs.declared.sort.Sort.{Sort}

@@ -1,5 +1,5 @@
 -- The bytes of a list's elements: how many there are, where each element's stand, and that they tell the list.
-use Rattle.std.proofs.Common.{◌≡◌, ℕ, zero, suc, ◌+◌, ◌-◌, ◌*◌, ◌<◌, ◌≤◌, List, [], ◌∷◌, ◌++◌, length, get_or, take, drop, sym, refl, ap, ◌∙◌, subst, le_of_suc-le-suc, not-suc-le-zero, mul-le-mul_right, suc-mul, zero-mul, arith, length-append, length-drop, take-append-drop, length-take-le}
+use Rattle.std.proofs.Common.{◌≡◌, ℕ, zero, suc, ◌+◌, ◌*◌, ◌<◌, ◌≤◌, List, [], ◌∷◌, ◌++◌, length, get_or, take, drop, sym, refl, ap, ◌∙◌, subst, le_of_suc-le-suc, not-suc-le-zero, mul-le-mul_right, suc-mul, zero-mul, arith, length-append, length-drop, take-append-drop, length-take-le}
 use native.Mathlib.Nat.{eq_of_mul-eq-mul_right}
 use lib.Seq.{drop-append-add}
 use Rattle.std.proofs.lemmas.List.{take_at, drop_at, get_or-drop}

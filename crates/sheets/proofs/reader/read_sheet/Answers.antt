@@ -8,5 +8,5 @@ law_of g =
 
 pub returns : goal.returns
 returns g c =
-    let a = answer_told g.T.Ordered.before _ _ _ _ c.args.seat c.read-list.result _ c.told-to.ensures c.read-list.ensures in
+    let a = answer_told g.T.Ordered.before _ _ _ _ c.args.seat c.read_list.result _ c.told_to.ensures c.read_list.ensures in
     record { answers = a; law = reader_law g.T.Ordered.before _ _ _ _ (law_of g) c.args.seat _ a }

@@ -4,6 +4,6 @@ use Rattle.sheets.proofs.link_level_sheet.LinkLevelSheetElement.decode.Goals as 
 
 pub returns : goal.returns
 returns c =
-    let read = c.level-in.ensures in
-    bytes_of_read c.args.bytes.now c.level-in.result.level c.level-in.result.link (search rules) (λ i. omega (arith, c.type-inv.bytes i))
-    (read.level ∙ ap (to_z w32) c.number-in.ensures) (read.link ∙ c.number-in-2.ensures)
+    let read = c.level_in.ensures in
+    bytes_of_read c.args.bytes.now c.level_in.result.level c.level_in.result.link (search rules) (λ i. omega (arith, c.type_inv.bytes i))
+    (read.level ∙ ap (to_z w32) c.number_in.ensures) (read.link ∙ c.number_in-2.ensures)
