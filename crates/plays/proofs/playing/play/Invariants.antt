@@ -1,4 +1,4 @@
-use Rattle.std.proofs.Common.{◌≡◌, ◌+◌, ◌-◌, min}
+use Rattle.std.proofs.Common.{◌≡◌, ◌-◌, min}
 use Rattle.plays.proofs.Turns.{PlayedTo}
 use Rattle.plays.proofs.playing.play.Given as goal
 
