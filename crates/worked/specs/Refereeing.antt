@@ -11,12 +11,11 @@ use Rattle.quotas.specs.declared.quota.Quota.{Quota}
 use Rattle.spares.specs.Spares.{SpendsInTurn}
 use Rattle.spares.specs.declared.spare.Spare.{Spare}
 use Rattle.strips.specs.Strips.{TakesTwoWords}
-use Rattle.strips.specs.declared.strip.Strip.{Strip}
 use Rattle.referees.specs.Questions.{OneQuestion, told_stock, out_of_stock}
 use Rattle.referees.specs.Shown.{entry_of, shown_of}
 use Rattle.referees.specs.declared.sort.Sort.TheVariants.{Below as BelowSort, Element as ElementSort, Above as AboveSort}
 use Rattle.referees.specs.declared.verdict.PairVerdict.{PairVerdict}
-use Rattle.referees.specs.Verdicts.{verdict_number, first_of, weight_of}
+use Rattle.referees.specs.Verdicts.{first_of, weight_of}
 use Rattle.referees.specs.declared.verdict.PairVerdict.TheVariants.{Before, NotBefore}
 use Rattle.referees.specs.declared.verdict.GroupVerdict.TheVariants.{Lower, Higher, Done}
 use Rattle.strips.specs.Halves.{halves_of, joined}
