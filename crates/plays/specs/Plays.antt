@@ -22,7 +22,7 @@ abbrev pub line_at : {E : Type 0} → (E → E → Bool) → ℕ → ℕ → Que
 line_at before stock i question =
     record { question = question; outcome = cond (nat_lt i stock) (Answered (truth_of before question)) (Refused out_of_stock); left = told_stock (stock - (i + 1)) }
 
--- Lines that were old and are new, played from first to last against a referee that had stock-before and has stock-after:
+-- Lines that were old and are new, played from first to last against a referee that had stock_before and has stock_after:
 -- as many are answered as the stock allows, and each answer costs one question.
 pub record Played {E : Type 0} (before : E → E → Bool) (stock_before stock_after : ℕ) (old new : List (Line E)) (tally : Tally) : Type 0 where
   pub as_many_lines : length new ≡ length old
