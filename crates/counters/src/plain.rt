@@ -1,13 +1,14 @@
-ghost use Rattle.std.specs.Prelude.{◌≡◌};
-ghost use Rattle.referees.specs.Questions.{OneQuestion, AsksFirst, AsksLesser, AsksWeight};
+ghost use Rattle.std.specs.Prelude.{◌≡◌, IfOk};
+ghost use Rattle.referees.specs.Questions.{OneQuestion, AsksFirst, AsksLesser};
 ghost use Rattle.counters.specs.Stocks.{plain_stock};
 
 use elements::entry::Entry;
 use elements::ordered::Ordered;
 use faults::fault::RunFault;
 use referees::referee::Referee;
-use referees::sort::Sort;
+use referees::sort::Shown;
 use referees::stock::{out_of_stock, told};
+use referees::sums::Sums;
 use referees::verdict::{GroupVerdict, PairVerdict};
 
 /// A referee that counts its stock down.
@@ -38,23 +39,27 @@ impl Plain {
 impl<T: Ordered> Referee<T> for Plain {
     ghost stock = { plain_stock };
 
-    fn first(&mut self, sa: Sort, a: T, sb: Sort, b: T) -> Result<PairVerdict, RunFault>
-        ensures answers { AsksFirst T.Ordered.before plain_stock self.old self.new sa a sb b result }
+    ghost spends = { λ old new. Unit {0} };
+
+    fn first(&mut self, a: Shown<T>, b: Shown<T>) -> Result<PairVerdict, RunFault>
+        ensures answers { AsksFirst T.Ordered.before plain_stock self.old self.new a b result }
+        ensures spends { IfOk result (λ answer. Unit {0}) }
     {
         self.spend()?;
-        Ok(PairVerdict::on(sa.entry(a), sb.entry(b)))
+        Ok(PairVerdict::on(a.into(), b.into()))
     }
 
-    fn lesser(&mut self, sa: Sort, a: T, sb: Sort, b: T) -> Result<Entry<T>, RunFault>
-        ensures answers { AsksLesser T.Ordered.before plain_stock self.old self.new sa a sb b result }
+    fn lesser(&mut self, a: Shown<T>, b: Shown<T>) -> Result<Entry<T>, RunFault>
+        ensures answers { AsksLesser T.Ordered.before plain_stock self.old self.new a b result }
+        ensures spends { IfOk result (λ answer. Unit {0}) }
     {
         self.spend()?;
-        Ok(sa.entry(a).lesser(sb.entry(b)))
+        Ok(Entry::from(a).lesser(Entry::from(b)))
     }
 
-    fn weigh(&mut self, below: u32, above: u32, k: u32, n: u32) -> Result<GroupVerdict, RunFault> {
+    fn weigh(&mut self, sums: Sums) -> Result<GroupVerdict, RunFault> {
         self.spend()?;
-        Ok(GroupVerdict::on(below, above, k, n))
+        Ok(GroupVerdict::on(sums))
     }
 
     fn left(&self) -> u32 {

@@ -1,23 +1,13 @@
 -- What follows from the two laws of an order. That x is not after y is written as before y x ≡ false.
-use Rattle.std.proofs.Common.{◌≡◌, ℕ, zero, suc, ◌<◌, Bool, true, false, List, length, get_or, sym, refl, ap, ◌∙◌, inl, inr, le_of_suc-le-suc, arith}
-use Rattle.std.proofs.lemmas.Bool.{cases_Bool, cases_lt, both_ways}
+use Rattle.std.proofs.Common.{◌≡◌, ℕ, zero, suc, ◌<◌, Bool, true, false, List, length, get_or, sym, ap, ◌∙◌, inl, inr, le_of_suc-le-suc, arith}
+use Rattle.std.proofs.lemmas.Bool.{cases_Bool, cases_lt, both_ways, false_from_ne_true, true_from_ne_false}
 use Rattle.elements.specs.Orders.{IsOrder, NeverFalls}
-
--- a test that cannot pass fails
-pub never_true : (b : Bool) → (b ≡ true → ⊥) → b ≡ false
-never_true true h = absurd (h refl)
-never_true false h = refl
-
--- a test that cannot fail passes
-pub never_false : (b : Bool) → (b ≡ false → ⊥) → b ≡ true
-never_false true h = refl
-never_false false h = absurd (h refl)
 
 module _ {X : Type 0} {before : X → X → Bool} (o : IsOrder before) where
   -- no element is before itself
   pub irreflexive : (x : X) → before x x ≡ false
   irreflexive x =
-      never_true (before x x) (λ t. elim (o.trichotomy x x) [
+      false_from_ne_true (before x x) (λ t. elim (o.trichotomy x x) [
         | inl p ↦ p.1 t
         | inr q ↦ elim q [ inl p ↦ p.0 t | inr p ↦ p.0 t ]
       ])
@@ -32,23 +22,23 @@ module _ {X : Type 0} {before : X → X → Bool} (o : IsOrder before) where
 
   -- x before y: y is not before x
   pub asymmetric : (x y : X) → before x y ≡ true → before y x ≡ false
-  asymmetric x y h = never_true (before y x) (λ t. both_ways (before x x) (irreflexive x) (o.transitive x y x h t))
+  asymmetric x y h = false_from_ne_true (before y x) (λ t. both_ways (before x x) (irreflexive x) (o.transitive x y x h t))
 
   -- x not after y, y not after z: x is not after z
   pub le_trans : (x y z : X) → before y x ≡ false → before z y ≡ false → before z x ≡ false
   le_trans x y z p q =
-      never_true (before z x) (λ t. elim (cases_Bool (before y z)) [
+      false_from_ne_true (before z x) (λ t. elim (cases_Bool (before y z)) [
         | inl s ↦ both_ways (before y x) p (o.transitive y z x s t)
         | inr f ↦ both_ways (before z x) (ap (λ w. before w x) (sym (connected y z f q)) ∙ p) t
       ])
 
   -- x not after y, y before z: x is before z
   pub le_lt_trans : (x y z : X) → before y x ≡ false → before y z ≡ true → before x z ≡ true
-  le_lt_trans x y z p q = never_false (before x z) (λ f. both_ways (before y z) (le_trans z x y f p) q)
+  le_lt_trans x y z p q = true_from_ne_false (before x z) (λ f. both_ways (before y z) (le_trans z x y f p) q)
 
   -- x before y, y not after z: x is before z
   pub lt_le_trans : (x y z : X) → before x y ≡ true → before z y ≡ false → before x z ≡ true
-  lt_le_trans x y z p q = never_false (before x z) (λ f. both_ways (before x y) (le_trans y z x q f) p)
+  lt_le_trans x y z p q = true_from_ne_false (before x z) (λ f. both_ways (before x y) (le_trans y z x q f) p)
 
   -- a list never falls where no element is before its predecessor
   pub neighbours_never_fall : (xs : List X) →

@@ -14,13 +14,11 @@ impl Ordered for Delay {
 
     ghost sample = { delay_zero };
 
+    ghost less_by_cmp = { Prim.search rules };
+
     ghost trichotomy = { trichotomy_by_places delay_before (λ x. x.micros) (λ x y. refl) delay_alike };
 
     ghost transitive = { Prim.search rules };
-
-    fn is_before(self, other: Delay) -> bool {
-        self.micros < other.micros
-    }
 
     fn some() -> Delay {
         Delay {
@@ -32,9 +30,13 @@ impl Ordered for Delay {
 impl Placed for Delay {
     ghost place = { λ x. x.micros };
 
-    ghost lowest = { 0 };
+    const LOWEST: u64 = 0;
 
-    ghost highest = { 2 ^ 32 - 1 };
+    ghost LOWEST = { 0 };
+
+    const HIGHEST: u64 = 0xffff_ffff;
+
+    ghost HIGHEST = { 2 ^ 32 - 1 };
 
     ghost agrees = { Prim.search rules };
 
@@ -44,27 +46,12 @@ impl Placed for Delay {
 
     ghost complete = { delays_complete };
 
-    fn lowest_place() -> u64 {
-        u64::MIN
-    }
-
-    fn highest_place() -> u64 {
-        0xffff_ffff
-    }
-
     fn place_number(self) -> u64 {
         self.micros as u64
     }
 
     fn at_place(n: u64) -> Option<Delay> {
-        if n <= 0xffff_ffff {
-            Some(Delay { micros: n as u32 })
-        } else {
-            None
-        }
-    }
-
-    fn precedes(self, other: Delay) -> bool {
-        self.place_number() < other.place_number()
+        let micros = u32::try_from(n).ok()?;
+        Some(Delay { micros })
     }
 }

@@ -1,5 +1,5 @@
 /// What a row holds at a place: an element, or a mark that is below or above every element.
-#[derive(Clone, Copy)]
+#[derive(Clone, Copy, Debug, PartialEq, Eq, PartialOrd, Ord)]
 pub enum Entry<T> {
     Below,
     Element(T),

@@ -1,6 +1,6 @@
-ghost use Rattle.std.specs.Prelude.{◌≡◌, true};
+ghost use Rattle.std.specs.Prelude.{◌≡◌, true, refl};
 ghost use Rattle.elements.specs.Entries.{entry_before, lesser_entry, MarksOutside};
-ghost use Rattle.elements.specs.declared.entry.Entry.TheVariants.{Element};
+ghost use Rattle.elements.specs.declared.entry.Entry.TheVariants.{Below, Element, Above};
 ghost use Rattle.elements.specs.EntryLaws.{entries_trichotomy, entries_transitive};
 
 use crate::entry::Entry;
@@ -12,19 +12,15 @@ impl<T: Ordered> Ordered for Entry<T> {
 
     ghost sample = { Element T.Ordered.sample };
 
+    ghost less_by_cmp = { elim [
+      | Below ↦ elim [ Below ↦ refl | Element y ↦ refl | Above ↦ refl ]
+      | Element x ↦ elim [ Below ↦ refl | Element y ↦ T.Ordered.less_by_cmp x y | Above ↦ refl ]
+      | Above ↦ elim [ Below ↦ refl | Element y ↦ refl | Above ↦ refl ]
+    ] };
+
     ghost trichotomy = { entries_trichotomy T.Ordered.before T.Ordered.trichotomy };
 
     ghost transitive = { entries_transitive T.Ordered.before T.Ordered.transitive };
-
-    fn is_before(self, other: Entry<T>) -> bool {
-        match (self, other) {
-            (Entry::Element(x), Entry::Element(y)) => x.is_before(y),
-            (Entry::Below, Entry::Below) => false,
-            (Entry::Below, _) => true,
-            (Entry::Element(_), Entry::Above) => true,
-            _ => false,
-        }
-    }
 
     fn some() -> Entry<T> {
         Entry::Element(T::some())
@@ -41,8 +37,6 @@ impl<T: Ordered> Entry<T> {
 }
 
 /// Below is before every element and every element before above, for every ordered type.
-pub fn marks_stand_outside<T: Ordered>() -> u8
+pub fn marks_stand_outside<T: Ordered>()
     ensures { MarksOutside (entry_before T.Ordered.before) }
-{
-    0
-}
+{}

@@ -8,5 +8,6 @@ pub mod entry_order;
 pub mod link_level;
 pub mod link_level_order;
 pub mod ordered;
+pub mod place_order;
 pub mod placed;
 pub mod printing;

@@ -1,7 +1,7 @@
 ghost use Rattle.std.specs.Prelude.{◌-◌, ◌^◌, ◌<◌, pos, negsuc, ◌≤ℤ◌};
 
 /// The level of a link, in hundredths of dBm, with the link's number.
-#[derive(Clone, Copy)]
+#[derive(Clone, Copy, Debug, PartialEq, Eq, PartialOrd, Ord)]
 pub struct LinkLevel {
     pub level: i32,
     pub link: u32,

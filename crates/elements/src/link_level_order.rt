@@ -13,19 +13,11 @@ impl Ordered for LinkLevel {
 
     ghost sample = { level_zero };
 
+    ghost less_by_cmp = { Prim.search rules };
+
     ghost trichotomy = { trichotomy_by_places level_before level_place level_agrees level_apart };
 
     ghost transitive = { transitive_by_places level_before level_place level_agrees };
-
-    fn is_before(self, other: LinkLevel) -> bool {
-        if self.level < other.level {
-            true
-        } else if other.level < self.level {
-            false
-        } else {
-            self.link < other.link
-        }
-    }
 
     fn some() -> LinkLevel {
         LinkLevel {
@@ -38,9 +30,13 @@ impl Ordered for LinkLevel {
 impl Placed for LinkLevel {
     ghost place = { level_place };
 
-    ghost lowest = { 0 };
+    const LOWEST: u64 = 0;
 
-    ghost highest = { 2 ^ 64 - 1 };
+    ghost LOWEST = { 0 };
+
+    const HIGHEST: u64 = u64::MAX;
+
+    ghost HIGHEST = { 2 ^ 64 - 1 };
 
     ghost agrees = { level_agrees };
 
@@ -49,14 +45,6 @@ impl Placed for LinkLevel {
     ghost within = { Prim.search rules };
 
     ghost complete = { levels_complete };
-
-    fn lowest_place() -> u64 {
-        u64::MIN
-    }
-
-    fn highest_place() -> u64 {
-        u64::MAX
-    }
 
     fn place_number(self) -> u64 {
         (self.level as i64 + 0x8000_0000) as u64 * 0x1_0000_0000 + self.link as u64
@@ -69,9 +57,5 @@ impl Placed for LinkLevel {
             level: level as i32,
             link: link as u32,
         })
-    }
-
-    fn precedes(self, other: LinkLevel) -> bool {
-        self.place_number() < other.place_number()
     }
 }

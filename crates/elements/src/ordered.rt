@@ -1,18 +1,24 @@
 ghost use Rattle.std.specs.Prelude.{◌≡◌, Bool};
+ghost use Rattle.std.specs.Ordering.{is_lt};
 ghost use Rattle.elements.specs.Orders.{Trichotomy, Transitive};
 
 /// A type whose elements stand in an order without ties: what is neither before nor after is equal.
-pub trait Ordered: Copy {
+pub trait Ordered: Copy + Ord {
     ghost before: { Self → Self → Bool };
 
     ghost sample: { Self };
 
-    fn is_before(self, other: Self) -> bool
-        ensures { result ≡ before self other };
+    final fn is_before(self, other: Self) -> bool
+        ensures { result ≡ before self other }
+    {
+        self < other
+    }
 
     /// Some element, always the same: it stands in where a value is needed and none matters.
     fn some() -> Self
         ensures { result ≡ sample };
+
+    ghost less_by_cmp: { (x y : Self) → before x y ≡ is_lt (Self.Ord.cmp x y) };
 
     ghost trichotomy: { Trichotomy before };
 

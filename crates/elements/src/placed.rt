@@ -8,33 +8,34 @@ use crate::ordered::Ordered;
 pub trait Placed: Ordered {
     ghost place: { Self → ℕ };
 
-    ghost lowest: { ℕ };
+    const LOWEST: u64;
 
-    ghost highest: { ℕ };
+    ghost LOWEST: { ℕ };
 
-    fn lowest_place() -> u64
-        ensures { result ≡ lowest };
+    const HIGHEST: u64;
 
-    fn highest_place() -> u64
-        ensures { result ≡ highest };
+    ghost HIGHEST: { ℕ };
 
     fn place_number(self) -> u64
         ensures { result ≡ place self };
 
     /// The element at a place, or none where the number is no place of the type.
     fn at_place(n: u64) -> Option<Self>
-        ensures { AtPlace place lowest highest n result };
+        ensures { AtPlace place LOWEST HIGHEST n result };
 
     /// Whether this element is before the other, in the type's order and by places alike.
-    fn precedes(self, other: Self) -> bool
+    final fn precedes(self, other: Self) -> bool
         ensures by_order { result ≡ Self.Ordered.before self other }
-        ensures by_places { result ≡ nat_lt (place self) (place other) };
+        ensures by_places { result ≡ nat_lt (place self) (place other) }
+    {
+        self.place_number() < other.place_number()
+    }
 
     ghost agrees: { PlacesAgree Self.Ordered.before place };
 
-    ghost fits: { highest < 2 ^ 64 };
+    ghost fits: { HIGHEST < 2 ^ 64 };
 
-    ghost within: { (x : Self) → (lowest ≤ place x) × (place x ≤ highest) };
+    ghost within: { (x : Self) → (LOWEST ≤ place x) × (place x ≤ HIGHEST) };
 
-    ghost complete: { OneElementEach place lowest highest };
+    ghost complete: { OneElementEach place LOWEST HIGHEST };
 }

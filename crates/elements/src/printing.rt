@@ -10,7 +10,7 @@ impl fmt::Display for Delay {
     ghost output = { λ x. Some (delay_word x) };
 
     fn fmt<W: fmt::Write>(&self, f: &mut fmt::Formatter<W>) -> fmt::Result {
-        let micros = self.micros;
+        let Delay { micros } = self;
         write!(f, "{micros}")
     }
 }
@@ -19,8 +19,7 @@ impl fmt::Display for LinkLevel {
     ghost output = { λ x. Some (level_word x) };
 
     fn fmt<W: fmt::Write>(&self, f: &mut fmt::Formatter<W>) -> fmt::Result {
-        let level = self.level;
-        let link = self.link;
+        let LinkLevel { level, link } = self;
         write!(f, "{level} link {link}")
     }
 }

@@ -1,4 +1,4 @@
--- What a fault of each layer tells: the refusal's number, the layer that refused, the seat and the spot.
+-- What a fault of each layer tells: the refusal, the layer that refused, and the seat.
 use Rattle.std.specs.Prelude.{◌≡◌, Option}
 use Rattle.faults.specs.declared.refusal.Refusal.{Refusal}
 use Rattle.faults.specs.declared.fault.Seat.{Seat as Whose}
@@ -10,10 +10,9 @@ use Rattle.faults.specs.declared.fault.SeatFault.TheVariants.{OfSheet, Own}
 use Rattle.faults.specs.declared.fault.RunFault.{RunFault}
 use Rattle.faults.specs.declared.fault.RunFault.TheVariants.{OfSeat, Own as OwnRun}
 use Rattle.faults.specs.declared.notice.Notice.{Notice}
-use Rattle.faults.specs.Numbers.{number_of, spot_of}
 
 abbrev pub notice_of : Refusal → Layer → Option Whose → Notice
-notice_of refusal layer seat = record { number = number_of refusal; layer = layer; seat = seat; spot = spot_of refusal }
+notice_of refusal layer seat = record { refusal = refusal; layer = layer; seat = seat }
 
 abbrev pub sheet_notice : SheetFault → Notice
 sheet_notice f = notice_of f.refusal Sheet f.seat
@@ -26,7 +25,7 @@ abbrev pub run_notice : RunFault → Notice
 run_notice (OfSeat f) = seat_notice f
 run_notice (OwnRun refusal seat) = notice_of refusal Run seat
 
--- a converted fault holds the whole fault, and so tells the same number, layer, seat and spot
+-- a converted fault holds the whole fault, and so tells the same refusal, layer and seat
 pub record SeatKeepsSheet (e : SheetFault) (r : SeatFault) : Type 0 where
   pub whole : r ≡ OfSheet e
   pub same : seat_notice r ≡ sheet_notice e

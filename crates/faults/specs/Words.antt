@@ -5,6 +5,7 @@ use Rattle.faults.specs.declared.fault.Seat.TheVariants.{A, B, Numbered}
 use Rattle.faults.specs.declared.fault.Layer.{Layer}
 use Rattle.faults.specs.declared.fault.Layer.TheVariants.{Sheet, Seat, Run}
 use Rattle.faults.specs.declared.notice.Notice.{Notice}
+use Rattle.faults.specs.Numbers.{number_of, spot_of}
 
 abbrev pub layer_word : Layer → List ℕ
 layer_word Sheet = codes "sheet"
@@ -28,4 +29,4 @@ shown_or_dash shown (Some x) = shown x
 
 abbrev pub notice_line : Notice → List ℕ
 notice_line n =
-    codes "refused " ++ (decimal n.number ++ (codes " " ++ (layer_word n.layer ++ (codes " " ++ (or_dash seat_word n.seat ++ (codes " " ++ or_dash decimal n.spot))))))
+    codes "refused " ++ (decimal (number_of n.refusal) ++ (codes " " ++ (layer_word n.layer ++ (codes " " ++ (or_dash seat_word n.seat ++ (codes " " ++ or_dash decimal (spot_of n.refusal)))))))

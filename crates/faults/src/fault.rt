@@ -1,7 +1,7 @@
 use crate::refusal::Refusal;
 
 /// Whom a call was made for: a side of a pair, or a seat of a group by its number from 1.
-#[derive(Clone, Copy)]
+#[derive(Clone, Copy, Debug, PartialEq, Eq)]
 pub enum Seat {
     A,
     B,
@@ -9,7 +9,7 @@ pub enum Seat {
 }
 
 /// The part of the unit that refused.
-#[derive(Clone, Copy)]
+#[derive(Clone, Copy, Debug, PartialEq, Eq)]
 pub enum Layer {
     Sheet,
     Seat,
@@ -17,21 +17,21 @@ pub enum Layer {
 }
 
 /// A sheet was refused.
-#[derive(Clone, Copy)]
+#[derive(Clone, Copy, Debug, PartialEq, Eq)]
 pub struct SheetFault {
     pub refusal: Refusal,
     pub seat: Option<Seat>,
 }
 
 /// A seat's own call was refused, or the sheet under it.
-#[derive(Clone, Copy)]
+#[derive(Clone, Copy, Debug, PartialEq, Eq)]
 pub enum SeatFault {
     OfSheet(SheetFault),
     Own(Refusal, Option<Seat>),
 }
 
 /// A run's call or a rank call was refused, or the seat's call under it.
-#[derive(Clone, Copy)]
+#[derive(Clone, Copy, Debug, PartialEq, Eq)]
 pub enum RunFault {
     OfSeat(SeatFault),
     Own(Refusal, Option<Seat>),

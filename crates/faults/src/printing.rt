@@ -33,15 +33,13 @@ impl fmt::Display for Seat {
 
 /// A value where there is one, else a dash.
 #[derive(Drop)]
-struct OrDash<T> {
-    value: Option<T>,
-}
+struct OrDash<T>(Option<T>);
 
 impl<T: fmt::Display> fmt::Display for OrDash<T> {
-    ghost output = { λ x. shown_or_dash T.Display.output x.value };
+    ghost output = { λ x. shown_or_dash T.Display.output x.0 };
 
     fn fmt<W: fmt::Write>(&self, f: &mut fmt::Formatter<W>) -> fmt::Result {
-        match &self.value {
+        match &self.0 {
             Some(value) => write!(f, "{value}"),
             None => write!(f, "-"),
         }
@@ -52,10 +50,10 @@ impl fmt::Display for Notice {
     ghost output = { λ x. Some (notice_line x) };
 
     fn fmt<W: fmt::Write>(&self, f: &mut fmt::Formatter<W>) -> fmt::Result {
-        let number = self.number;
+        let number = self.refusal.number();
         let layer = self.layer;
-        let seat = OrDash { value: self.seat };
-        let spot = OrDash { value: self.spot };
+        let seat = OrDash(self.seat);
+        let spot = OrDash(self.refusal.spot());
         write!(f, "refused {number} {layer} {seat} {spot}")
     }
 }
@@ -64,8 +62,7 @@ impl fmt::Display for SheetFault {
     ghost output = { λ x. Some (notice_line (sheet_notice x)) };
 
     fn fmt<W: fmt::Write>(&self, f: &mut fmt::Formatter<W>) -> fmt::Result {
-        let notice = self.notice();
-        write!(f, "{notice}")
+        self.notice().fmt(f)
     }
 }
 
@@ -73,8 +70,7 @@ impl fmt::Display for SeatFault {
     ghost output = { λ x. Some (notice_line (seat_notice x)) };
 
     fn fmt<W: fmt::Write>(&self, f: &mut fmt::Formatter<W>) -> fmt::Result {
-        let notice = self.notice();
-        write!(f, "{notice}")
+        self.notice().fmt(f)
     }
 }
 
@@ -82,7 +78,6 @@ impl fmt::Display for RunFault {
     ghost output = { λ x. Some (notice_line (run_notice x)) };
 
     fn fmt<W: fmt::Write>(&self, f: &mut fmt::Formatter<W>) -> fmt::Result {
-        let notice = self.notice();
-        write!(f, "{notice}")
+        self.notice().fmt(f)
     }
 }

@@ -4,7 +4,7 @@ ghost use Rattle.faults.specs.Numbers.{number_of, spot_of};
 /// The condition under which a call refuses, one variant a condition.
 ///
 /// The spot of a refusal is an element's number in its list, counted from 1.
-#[derive(Clone, Copy)]
+#[derive(Clone, Copy, Debug, PartialEq, Eq)]
 pub enum Refusal {
     /// A sheet has under 6 bytes.
     SheetTooShort,

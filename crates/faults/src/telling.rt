@@ -6,7 +6,7 @@ use crate::fault::{Layer, RunFault, Seat, SeatFault, SheetFault};
 use crate::notice::Notice;
 use crate::refusal::Refusal;
 
-/// A fault of any layer, which tells number, layer, seat and spot.
+/// A fault of any layer, which tells its refusal, layer and seat.
 pub trait Fault: Copy {
     ghost tells: { Self → Notice };
 
@@ -19,10 +19,9 @@ fn notice_of(refusal: Refusal, layer: Layer, seat: Option<Seat>) -> Notice
     ensures { result ≡ notice_of refusal layer seat }
 {
     Notice {
-        number: refusal.number(),
+        refusal,
         layer,
         seat,
-        spot: refusal.spot(),
     }
 }
 

@@ -1,10 +1,5 @@
 -- A play whose referee's stock is known as a number.
-use mathlib.Core.Path.{◌≡◌, ap, ◌∙◌}
-use mathlib.Core.Bool.{Bool}
-use mathlib.Core.List.{List}
-use Prim.Native.Nat.{ℕ, ◌-◌}
-use native.Mathlib.Omega.{arith}
-use lib.ListN.{length, get_or}
+use Rattle.std.proofs.Common.{◌≡◌, ℕ, ◌+◌, ◌-◌, min, Bool, List, length, get_or, ap, ◌∙◌, arith}
 use Rattle.referees.specs.Questions.{told_stock}
 use Rattle.plays.specs.declared.line.Line.{Line}
 use Rattle.plays.specs.declared.line.Tally.{Tally}
@@ -21,3 +16,7 @@ played_from before stock was is old new tally e p =
       one_each = omega (arith, p.one_each);
       left = p.left ∙ ap told_stock after;
     }
+
+-- the stock of a pile is the same whichever of its two referees is used first
+pub in_either_order : (whole a b : ℕ) → min whole (a + b) ≡ min whole (b + a)
+in_either_order whole a b = omega arith

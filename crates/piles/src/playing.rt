@@ -13,6 +13,7 @@ use elements::placed::Placed;
 use plays::line::{Line, Tally};
 use plays::playing::play;
 use quotas::quota::Quota;
+use referees::referee::Referee;
 use spares::spare::Spare;
 use strips::strip::Strip;
 
@@ -31,36 +32,31 @@ fn part_of(numbers: PileNumbers) -> Quota<Plain>
     Quota::over(numbers.part, Plain::with_stock(numbers.plain))
 }
 
-/// A quota over a spare, whose first is a quota over a plain referee and whose second is a strip.
-fn pile_of<'a>(numbers: PileNumbers, words: &'a [u64]) -> Quota<Spare<Quota<Plain>, Strip<'a>>>
-    ensures { quota_stock (spare_stock (quota_stock plain_stock) strip_stock) result ≡ pile_stock numbers words.now }
-{
-    Quota::over(numbers.whole, Spare::of(part_of(numbers), Strip::of(words)))
-}
-
-/// A quota over a spare, whose first is a strip and whose second is lent.
-fn lending_pile_of<'a, 'b>(
+/// Plays lines against a quota over a spare.
+fn play_on_spare<T: Ordered, R: Referee<T> + Drop, S: Referee<T> + Drop>(
     whole: u64,
-    words: &'a [u64],
-    lent: &'b mut Quota<Plain>,
-) -> Quota<Spare<Strip<'a>, &'b mut Quota<Plain>>>
-    ensures { quota_stock (spare_stock strip_stock (lent_stock (quota_stock plain_stock))) result ≡ min whole (length words.now / 2 + quota_stock plain_stock lent.old) }
+    main: R,
+    spare: S,
+    lines: &mut [Line<T>],
+) -> Tally
+    ensures { PlayedFrom T.Ordered.before (min whole (R.Referee.stock main + S.Referee.stock spare)) lines.old lines.new result }
 {
-    Quota::over(whole, Spare::of(Strip::of(words), lent))
+    play(&mut Quota::over(whole, Spare::of(main, spare)), lines)
 }
 
 /// Plays lines against a quota over a spare, whose first is a quota over a plain referee and whose second is a strip.
 pub fn play_on_pile<T: Placed>(numbers: PileNumbers, words: &[u64], lines: &mut [Line<T>]) -> Tally
     ensures { PlayedFrom T.Ordered.before (pile_stock numbers words.now) lines.old lines.new result }
 {
-    play(&mut pile_of(numbers, words), lines)
+    play_on_spare(numbers.whole, part_of(numbers), Strip::of(words), lines)
 }
 
 /// Plays lines against a quota over a spare, whose first is a strip and whose second is lent: a quota over a plain
 /// referee.
+#[tactic(auto, using(crate::proofs::Tallies::in_either_order))]
 pub fn play_on_loan<T: Placed>(numbers: PileNumbers, words: &[u64], lines: &mut [Line<T>]) -> Tally
     ensures { PlayedFrom T.Ordered.before (pile_stock numbers words.now) lines.old lines.new result }
 {
     let mut lent = part_of(numbers);
-    play(&mut lending_pile_of(numbers.whole, words, &mut lent), lines)
+    play_on_spare(numbers.whole, Strip::of(words), &mut lent, lines)
 }

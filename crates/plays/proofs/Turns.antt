@@ -1,11 +1,10 @@
 -- One turn of a play.
-use Rattle.std.proofs.Common.{◌≡◌, ℕ, ◌+◌, ◌-◌, ◌<◌, ◌≤◌, Bool, true, false, cond, ltb, List, length, get_or, set, sym, refl, ap, ◌∙◌, inl, inr, arith, length-set, get_or-set_other, get_or-set_same}
+use Rattle.std.proofs.Common.{◌≡◌, ℕ, ◌+◌, ◌-◌, ◌<◌, ◌≤◌, Bool, true, false, cond, Some, Ok, Err, ltb, List, length, get_or, set, sym, refl, ap, ◌∙◌, inl, inr, arith, length-set, get_or-set_other, get_or-set_same}
+use Rattle.std.proofs.lemmas.List.{get_or_default}
 use Rattle.std.proofs.lemmas.Bool.{cases_Bool, cases_eq, ltb-true, ltb-false, lt-ltb, le-ltb}
-use Rattle.elements.proofs.Indexes.{at_index}
 use Rattle.faults.specs.declared.fault.RunFault.{RunFault}
 use Rattle.referees.specs.Questions.{out_of_stock, told_stock}
 use Rattle.plays.specs.declared.line.Line.{Line}
-use Rattle.plays.specs.declared.line.Outcome.TheVariants.{Answered, Refused}
 use Rattle.questions.specs.declared.question.Answer.{Answer}
 use Rattle.questions.specs.declared.question.Question.{Question}
 use Rattle.plays.specs.Plays.{line_at, answered_outcome}
@@ -17,7 +16,7 @@ pub record PlayedTo {E : Type 0} (before : E → E → Bool) (stock i : ℕ) (ol
   pub played : (j : ℕ) (d : Line E) → j < i → get_or new j d ≡ line_at before stock j (get_or old j d).question
   pub kept : (j : ℕ) (d : Line E) → i ≤ j → get_or new j d ≡ get_or old j d
 
-flag_of : {E : Type 0} (b : Bool) (answer : Answer E) (fault : RunFault) → answered_outcome (cond b (Answered answer) (Refused fault)) ≡ b
+flag_of : {E : Type 0} (b : Bool) (answer : Answer E) (fault : RunFault) → answered_outcome (Some (cond b (Ok answer) (Err fault))) ≡ b
 flag_of true answer fault = refl
 flag_of false answer fault = refl
 
@@ -38,7 +37,7 @@ module _ {E : Type 0} (before : E → E → Bool) where
   begun_later : (stock i : ℕ) (question : Question E) → line_at before (stock - i) 0 question ≡ line_at before stock i question
   begun_later stock i question =
       let p : stock - i - (0 + 1) ≡ stock - (i + 1) = omega arith in
-      λ k. record { question = question; outcome = cond (left_at stock i k) (Answered (truth_of before question)) (Refused out_of_stock); left = told_stock (p k) }
+      λ k. record { question = question; outcome = Some (cond (left_at stock i k) (Ok (truth_of before question)) (Err out_of_stock)); left = told_stock (p k) }
 
   -- one more line, asked when i questions were spent
   pub turn : (stock rest i : ℕ) (old new : List (Line E)) (line d : Line E) → i < length old → PlayedTo before stock i old new → rest ≡ stock - i →
@@ -48,7 +47,7 @@ module _ {E : Type 0} (before : E → E → Bool) where
     played = λ j z k. elim (cases_eq j i) [
       | inl q ↦
           let n : i < length new = omega (arith, p.as_many) in
-          let o : get_or new i d ≡ get_or old i z = p.kept i d (omega arith) ∙ (at_index old i h).1 d ∙ sym ((at_index old i h).1 z) in
+          let o : get_or new i d ≡ get_or old i z = p.kept i d (omega arith) ∙ get_or_default old i d z h in
           let l : line ≡ line_at before stock i (get_or old i z).question
           = e ∙ (λ m. line_at before (r m) 0 (o m).question) ∙ begun_later stock i (get_or old i z).question in
           ap (λ (m : ℕ). get_or (set new i line) m z) q ∙ get_or-set_same new i line z n ∙ l ∙ ap (λ (m : ℕ). line_at before stock m (get_or old m z).question) (sym q)

@@ -1,26 +1,26 @@
 -- Sequences of questions to one referee, written down line by line.
-use Rattle.std.specs.Prelude.{◌≡◌, ℕ, ◌+◌, ◌-◌, ◌<◌, min, Bool, true, false, cond, List, length, get_or, nat_lt, slice_index_or}
+use Rattle.std.specs.Prelude.{◌≡◌, ℕ, ◌+◌, ◌-◌, ◌<◌, min, Bool, true, false, cond, List, length, get_or, nat_lt, slice_index_or, Option, Some, None, Result, Ok, Err}
+use Rattle.faults.specs.declared.fault.RunFault.{RunFault}
 use Rattle.referees.specs.Questions.{out_of_stock, told_stock}
 use Rattle.questions.specs.declared.question.Question.{Question}
 use Rattle.plays.specs.declared.line.Line.{Line}
 use Rattle.plays.specs.declared.line.Tally.{Tally}
-use Rattle.plays.specs.declared.line.Outcome.{Outcome}
-use Rattle.plays.specs.declared.line.Outcome.TheVariants.{NotAsked, Answered, Refused}
+use Rattle.questions.specs.declared.question.Answer.{Answer}
 use Rattle.questions.specs.Truths.{truth_of}
 
 abbrev pub unasked : {E : Type 0} → Question E → Line E
-unasked question = record { question = question; outcome = NotAsked; left = 0 }
+unasked question = record { question = question; outcome = None; left = 0 }
 
-abbrev pub answered_outcome : {E : Type 0} → Outcome E → Bool
-answered_outcome NotAsked = false
-answered_outcome (Answered answer) = true
-answered_outcome (Refused fault) = false
+abbrev pub answered_outcome : {E : Type 0} → Option (Result (Answer E) RunFault) → Bool
+answered_outcome None = false
+answered_outcome (Some (Ok answer)) = true
+answered_outcome (Some (Err fault)) = false
 
 -- The line that a question comes to which is number i, counted from 0, in a play begun at a stock: answered truly
 -- while the stock lasts and refused from then on. `left` tells what remains after it.
 abbrev pub line_at : {E : Type 0} → (E → E → Bool) → ℕ → ℕ → Question E → Line E
 line_at before stock i question =
-    record { question = question; outcome = cond (nat_lt i stock) (Answered (truth_of before question)) (Refused out_of_stock); left = told_stock (stock - (i + 1)) }
+    record { question = question; outcome = Some (cond (nat_lt i stock) (Ok (truth_of before question)) (Err out_of_stock)); left = told_stock (stock - (i + 1)) }
 
 -- Lines that were old and are new, played from first to last against a referee that had stock_before and has stock_after:
 -- as many are answered as the stock allows, and each answer costs one question.

@@ -4,19 +4,11 @@ ghost use Rattle.plays.specs.Plays.{answered_outcome, unasked};
 use faults::fault::RunFault;
 use questions::question::{Answer, Question};
 
-/// What came of a question.
-#[derive(Drop)]
-pub enum Outcome<T> {
-    NotAsked,
-    Answered(Answer<T>),
-    Refused(RunFault),
-}
-
-/// A line of a play: a question, what came of it, and what the referee then had left.
+/// A line of a play: a question, what came of it once it was asked, and what the referee then had left (0 until then).
 #[derive(Drop)]
 pub struct Line<T> {
     pub question: Question<T>,
-    pub outcome: Outcome<T>,
+    pub outcome: Option<Result<Answer<T>, RunFault>>,
     pub left: u32,
 }
 
@@ -27,17 +19,6 @@ pub struct Tally {
     pub left: u32,
 }
 
-impl<T> Outcome<T> {
-    pub fn is_answered(&self) -> bool
-        ensures { result ≡ answered_outcome self.now }
-    {
-        match self {
-            Outcome::Answered(_) => true,
-            _ => false,
-        }
-    }
-}
-
 impl<T> Line<T> {
     /// A question still to be asked.
     pub fn to_ask(question: Question<T>) -> Line<T>
@@ -45,8 +26,14 @@ impl<T> Line<T> {
     {
         Line {
             question,
-            outcome: Outcome::NotAsked,
+            outcome: None,
             left: 0,
         }
+    }
+
+    pub fn is_answered(&self) -> bool
+        ensures { result ≡ answered_outcome self.now.outcome }
+    {
+        matches!(self.outcome, Some(Ok(_)))
     }
 }

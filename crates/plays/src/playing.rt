@@ -1,7 +1,7 @@
 ghost use Rattle.std.specs.Prelude.{◌≡◌, ℕ, ◌-◌};
 ghost use Rattle.plays.specs.Plays.{line_at, Played};
 
-use crate::line::{Line, Outcome, Tally};
+use crate::line::{Line, Tally};
 use elements::ordered::Ordered;
 use questions::asking::ask;
 use questions::question::Question;
@@ -13,13 +13,9 @@ pub fn ask_line<T: Ordered, R: Referee<T>>(referee: &mut R, question: Question<T
     ensures cost { R.Referee.stock referee.new ≡ R.Referee.stock referee.old - 1 }
     ensures empty_stays { R.Referee.stock referee.old ≡ 0 → referee.new ≡ referee.old }
 {
-    let outcome = match ask(referee, question) {
-        Ok(answer) => Outcome::Answered(answer),
-        Err(fault) => Outcome::Refused(fault),
-    };
     Line {
         question,
-        outcome,
+        outcome: Some(ask(referee, question)),
         left: (*referee).left(),
     }
 }
@@ -29,13 +25,13 @@ pub fn play<T: Ordered, R: Referee<T>>(referee: &mut R, lines: &mut [Line<T>]) -
     ensures empty_stays { R.Referee.stock referee.old ≡ 0 → referee.new ≡ referee.old }
     ensures played { Played T.Ordered.before (R.Referee.stock referee.old) (R.Referee.stock referee.new) lines.old lines.new result }
 {
+    // Counted by hand, since the check does not find what `filter` and `count` come to after the loop.
     let mut answered = 0;
-    for i in 0..lines.len() {
-        let line = ask_line(referee, lines[i].question);
-        if line.outcome.is_answered() {
+    for line in lines.iter_mut() {
+        *line = ask_line(referee, line.question);
+        if line.is_answered() {
             answered += 1;
         }
-        lines[i] = line;
     }
     Tally {
         answered,

@@ -1,18 +1,12 @@
 -- How a question and its answer are printed, byte by byte.
-use Rattle.std.specs.Prelude.{ℕ, List, ◌++◌, Some, codes, decimal, Option}
+use Rattle.std.specs.Prelude.{ℕ, List, ◌++◌, Some, codes, Option}
 use Rattle.std.specs.Fmt.{option_append}
 use Rattle.elements.specs.Words.{entry_shown}
-use Rattle.referees.specs.Verdicts.{pair_verdict_word, group_verdict_word}
-use Rattle.questions.specs.declared.question.Sums.{Sums}
+use Rattle.referees.specs.Verdicts.{pair_verdict_word, group_verdict_word, sums_word}
 use Rattle.questions.specs.declared.question.Question.{Question}
 use Rattle.questions.specs.declared.question.Question.TheVariants as Q
 use Rattle.questions.specs.declared.question.Answer.{Answer}
 use Rattle.questions.specs.declared.question.Answer.TheVariants as A
-
--- as sum below 3, sum above 5, k 4, n 9
-abbrev pub sums_word : Sums → List ℕ
-sums_word s =
-    codes "sum below " ++ (decimal s.below ++ (codes ", sum above " ++ (decimal s.above ++ (codes ", k " ++ (decimal s.k ++ (codes ", n " ++ decimal s.n))))))
 
 module _ {E : Type 0} (shown : E → Option (List ℕ)) where
   abbrev pub question_shown : Question E → Option (List ℕ)

@@ -1,4 +1,4 @@
-ghost use Rattle.std.specs.Prelude.{◌≡◌};
+ghost use Rattle.std.specs.Prelude.{IfOk};
 ghost use Rattle.referees.specs.Questions.{OneQuestion};
 ghost use Rattle.questions.specs.Truths.{truth_of};
 
@@ -14,10 +14,11 @@ pub fn ask<T: Ordered, R: Referee<T>>(
     question: Question<T>,
 ) -> Result<Answer<T>, RunFault>
     ensures answers { OneQuestion R.Referee.stock referee.old referee.new (truth_of T.Ordered.before question) result }
+    ensures spends { IfOk result (λ answer. R.Referee.spends referee.old referee.new) }
 {
     match question {
         Question::First(a, b) => Ok(Answer::First(ask_first(referee, a, b)?)),
         Question::Lesser(a, b) => Ok(Answer::Lesser(ask_lesser(referee, a, b)?)),
-        Question::Weigh(s) => Ok(Answer::Weigh(referee.weigh(s.below, s.above, s.k, s.n)?)),
+        Question::Weigh(sums) => Ok(Answer::Weigh(referee.weigh(sums)?)),
     }
 }

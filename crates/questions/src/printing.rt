@@ -1,20 +1,7 @@
-ghost use Rattle.std.specs.Prelude.{Some};
-ghost use Rattle.questions.specs.Words.{sums_word, question_shown, answer_shown};
+ghost use Rattle.questions.specs.Words.{question_shown, answer_shown};
 
-use crate::question::{Answer, Question, Sums};
+use crate::question::{Answer, Question};
 use std::fmt;
-
-impl fmt::Display for Sums {
-    ghost output = { λ x. Some (sums_word x) };
-
-    fn fmt<W: fmt::Write>(&self, f: &mut fmt::Formatter<W>) -> fmt::Result {
-        let below = self.below;
-        let above = self.above;
-        let k = self.k;
-        let n = self.n;
-        write!(f, "sum below {below}, sum above {above}, k {k}, n {n}")
-    }
-}
 
 impl<T: fmt::Display> fmt::Display for Question<T> {
     ghost output = { question_shown T.Display.output };

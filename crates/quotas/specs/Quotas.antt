@@ -1,4 +1,4 @@
--- The stock of a quota, and what it pays for an answered question. A refused one costs nothing.
+-- The stock of a quota, and what it pays for an answered question.
 use Rattle.std.specs.Prelude.{◌≡◌, ℕ, ◌+◌, ◌<◌, min, Ok, Err, Result}
 use Rattle.faults.specs.declared.fault.RunFault.{RunFault}
 use Rattle.referees.specs.Questions.{out_of_stock}
@@ -16,7 +16,8 @@ Admits referee (Err fault) = (fault ≡ out_of_stock) × (referee.own ≡ 0)
 abbrev pub Lowered : {R : Type 0} → Quota R → Quota R → Type 0
 Lowered old new = (old.own ≡ new.own + 1) × (new.below ≡ old.below)
 
--- an answered question lowers a quota's own number and the stock below it, each by one
-abbrev pub LowersBoth : {R X : Type 0} → (R → ℕ) → Quota R → Quota R → Result X RunFault → Type 0
-LowersBoth below_stock old new (Ok answer) = (old.own ≡ new.own + 1) × (below_stock old.below ≡ below_stock new.below + 1)
-LowersBoth below_stock old new (Err fault) = new ≡ old
+-- an answered question lowers a quota's own number and the stock below it, each by one, and takes below what it takes there
+pub record LowersBoth {R : Type 0} (below_stock : R → ℕ) (below_spends : R → R → Type 0) (old new : Quota R) : Type 0 where
+  pub own : old.own ≡ new.own + 1
+  pub below : below_stock old.below ≡ below_stock new.below + 1
+  pub spent_below : below_spends old.below new.below

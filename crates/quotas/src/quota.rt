@@ -1,13 +1,15 @@
-ghost use Rattle.std.specs.Prelude.{◌≡◌, ◌<◌};
-ghost use Rattle.referees.specs.Questions.{AsksFirst, AsksLesser, AsksWeight};
+ghost use Rattle.std.specs.Prelude.{◌≡◌, ◌<◌, IfOk};
+ghost use Rattle.referees.specs.Questions.{OneQuestion, AsksFirst, AsksLesser};
 ghost use Rattle.quotas.specs.Quotas.{Admits, Lowered, LowersBoth, quota_stock};
 
 use elements::entry::Entry;
 use elements::ordered::Ordered;
 use faults::fault::RunFault;
+use referees::inquiry::{First, Inquiry, Lesser};
 use referees::referee::Referee;
-use referees::sort::Sort;
+use referees::sort::Shown;
 use referees::stock::{out_of_stock, told};
+use referees::sums::Sums;
 use referees::verdict::{GroupVerdict, PairVerdict};
 
 /// A layer over a referee that lets no more than a number of questions through to it.
@@ -41,39 +43,42 @@ impl<R> Quota<R> {
     {
         self.own -= 1;
     }
+
+    /// Lets a question through to the referee below, if its own number allows.
+    fn let_through<T: Ordered, Q: Inquiry<T>>(&mut self, question: Q) -> Result<Q::Answer, RunFault>
+    where
+        R: Referee<T>,
+        ensures answers { OneQuestion (quota_stock R.Referee.stock) self.old self.new (Q.truth question) result }
+        ensures spends { IfOk result (λ answer. LowersBoth R.Referee.stock R.Referee.spends self.old self.new) }
+    {
+        self.admit()?;
+        let answer = question.put(&mut self.below)?;
+        self.lower();
+        Ok(answer)
+    }
 }
 
 impl<T: Ordered, R: Referee<T>> Referee<T> for Quota<R> {
     ghost stock = { quota_stock R.Referee.stock };
 
-    fn first(&mut self, sa: Sort, a: T, sb: Sort, b: T) -> Result<PairVerdict, RunFault>
-        ensures answers { AsksFirst T.Ordered.before (quota_stock R.Referee.stock) self.old self.new sa a sb b result }
-        ensures lowers_both { LowersBoth R.Referee.stock self.old self.new result }
+    ghost spends = { LowersBoth R.Referee.stock R.Referee.spends };
+
+    fn first(&mut self, a: Shown<T>, b: Shown<T>) -> Result<PairVerdict, RunFault>
+        ensures answers { AsksFirst T.Ordered.before (quota_stock R.Referee.stock) self.old self.new a b result }
+        ensures spends { IfOk result (λ answer. LowersBoth R.Referee.stock R.Referee.spends self.old self.new) }
     {
-        self.admit()?;
-        let verdict = self.below.first(sa, a, sb, b)?;
-        self.lower();
-        Ok(verdict)
+        self.let_through(First { a, b })
     }
 
-    fn lesser(&mut self, sa: Sort, a: T, sb: Sort, b: T) -> Result<Entry<T>, RunFault>
-        ensures answers { AsksLesser T.Ordered.before (quota_stock R.Referee.stock) self.old self.new sa a sb b result }
-        ensures lowers_both { LowersBoth R.Referee.stock self.old self.new result }
+    fn lesser(&mut self, a: Shown<T>, b: Shown<T>) -> Result<Entry<T>, RunFault>
+        ensures answers { AsksLesser T.Ordered.before (quota_stock R.Referee.stock) self.old self.new a b result }
+        ensures spends { IfOk result (λ answer. LowersBoth R.Referee.stock R.Referee.spends self.old self.new) }
     {
-        self.admit()?;
-        let entry = self.below.lesser(sa, a, sb, b)?;
-        self.lower();
-        Ok(entry)
+        self.let_through(Lesser { a, b })
     }
 
-    fn weigh(&mut self, below: u32, above: u32, k: u32, n: u32) -> Result<GroupVerdict, RunFault>
-        ensures answers { AsksWeight (quota_stock R.Referee.stock) self.old self.new below above k n result }
-        ensures lowers_both { LowersBoth R.Referee.stock self.old self.new result }
-    {
-        self.admit()?;
-        let verdict = self.below.weigh(below, above, k, n)?;
-        self.lower();
-        Ok(verdict)
+    fn weigh(&mut self, sums: Sums) -> Result<GroupVerdict, RunFault> {
+        self.let_through(sums)
     }
 
     fn left(&self) -> u32 {

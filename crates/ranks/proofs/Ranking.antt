@@ -4,11 +4,11 @@ use Rattle.std.specs.List.{AllByRecursion as All}
 use Rattle.std.proofs.ByRecursion.{All-get_or}
 use Rattle.std.specs.List.Sorted.{IsPermutation}
 use Rattle.std.proofs.lemmas.List.Sorted.{sum_by-IsPermutation}
-use Rattle.std.proofs.lemmas.Bool.{not-true, not_from_false}
+use Rattle.std.proofs.lemmas.Bool.{not-true, not_from_false, false_from_ne_true}
 use Rattle.elements.specs.Orders.{IsOrder, NeverFalls}
 use Rattle.ranks.specs.Ranks.{joint, count, in_order, Ranked, Counted}
 use Rattle.elements.proofs.Indexes.{at_index}
-use Rattle.elements.proofs.OrderFacts.{connected, le_lt_trans, never_true}
+use Rattle.elements.proofs.OrderFacts.{connected, le_lt_trans}
 use Rattle.ranks.proofs.Counting.{count-joint, count_le_length, count_weaken, count_past, count-front}
 use Rattle.ranks.proofs.Sorting.{count-in_order, length-in_order, all_in_order, in_order_never_falls}
 
@@ -25,7 +25,7 @@ module _ {X : Type 0} {before : X → X → Bool} (o : IsOrder before) (k : ℕ)
   -- of two elements of rank k by counting, the first is not before the second
   not_before : (x y : X) → Counted before k xs x → Counted before k xs y → before x y ≡ false
   not_before x y cx cy =
-      never_true (before x y) (λ t.
+      false_from_ne_true (before x y) (λ t.
       let w = count_weaken (λ z. not (before x z)) (λ z. before z y) xs (λ z h. le_lt_trans o z x y (not-true (before x z) h) t) in
       omega (arith, w, cx.many, cy.few))
 

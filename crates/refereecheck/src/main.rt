@@ -5,38 +5,42 @@ use elements::entry::Entry;
 use elements::link_level::LinkLevel;
 use piles::playing::{PileNumbers, play_on_pile};
 use plays::line::Line;
-use questions::question::{Question, Sums};
+use questions::question::Question;
+use referees::sums::Sums;
 use std::io;
 
 fn level(level: i32, link: u32) -> Entry<LinkLevel> {
     Entry::Element(LinkLevel { level, link })
 }
 
-fn first(a: Entry<LinkLevel>, b: Entry<LinkLevel>) -> Line<LinkLevel> {
-    Line::to_ask(Question::First(a, b))
-}
-
-fn lesser(a: Entry<LinkLevel>, b: Entry<LinkLevel>) -> Line<LinkLevel> {
-    Line::to_ask(Question::Lesser(a, b))
-}
-
-fn weigh(below: u32, above: u32, k: u32, n: u32) -> Line<LinkLevel> {
-    Line::to_ask(Question::Weigh(Sums { below, above, k, n }))
-}
-
 /// One question more than the pile answers; each of the three is put to the plain referee and to the strip.
-fn lines_to_ask() -> [Line<LinkLevel>; 10] {
+fn questions() -> [Question<LinkLevel>; 10] {
     [
-        first(level(-4250, 7), level(-4250, 9)),
-        first(level(310, 2), level(-4250, 7)),
-        lesser(Entry::Above, level(-4250, 7)),
-        weigh(4, 5, 4, 9),
-        first(level(-1, 9), level(0, 0)),
-        first(Entry::Below, Entry::Above),
-        lesser(level(310, 2), level(310, 1)),
-        weigh(0, 4_294_967_295, 1, 4_294_967_295),
-        weigh(3, 5, 4, 9),
-        first(Entry::Above, Entry::Above),
+        Question::First(level(-4250, 7), level(-4250, 9)),
+        Question::First(level(310, 2), level(-4250, 7)),
+        Question::Lesser(Entry::Above, level(-4250, 7)),
+        Question::Weigh(Sums {
+            below: 4,
+            above: 5,
+            k: 4,
+            n: 9,
+        }),
+        Question::First(level(-1, 9), level(0, 0)),
+        Question::First(Entry::Below, Entry::Above),
+        Question::Lesser(level(310, 2), level(310, 1)),
+        Question::Weigh(Sums {
+            below: 0,
+            above: u32::MAX,
+            k: 1,
+            n: u32::MAX,
+        }),
+        Question::Weigh(Sums {
+            below: 3,
+            above: 5,
+            k: 4,
+            n: 9,
+        }),
+        Question::First(Entry::Above, Entry::Above),
     ]
 }
 
@@ -73,7 +77,7 @@ fn main(rt: HostRuntime) -> io::Result<()> {
         numbers.plain,
         words.len()
     )?;
-    let mut lines = lines_to_ask();
+    let mut lines = questions().map(Line::to_ask);
     let tally = play_on_pile(numbers, &words, &mut lines);
     for line in lines {
         println!(rt; "{line}")?;

@@ -6,6 +6,6 @@ use Rattle.std.specs.Borrow.{MutBor}
 abbrev pub lent_stock : {R : Type 0} → (R → ℕ) → MutBor R → ℕ
 lent_stock stock referee = stock referee.now
 
--- a question leaves the loan the same loan, so what becomes of the referee is the lender's to see
-abbrev pub StaysLent : {R : Type 0} → MutBor R → MutBor R → Type 0
-StaysLent old new = new.ghost_name ≡ old.ghost_name
+-- what an answered question changes behind the reference; the loan stays the same loan, so that it is the lender's to see
+abbrev pub lent_spends : {R : Type 0} → (R → R → Type 0) → MutBor R → MutBor R → Type 0
+lent_spends spends old new = (new.ghost_name ≡ old.ghost_name) × spends old.now new.now

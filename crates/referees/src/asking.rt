@@ -1,4 +1,4 @@
-ghost use Rattle.std.specs.Prelude.{◌≡◌};
+ghost use Rattle.std.specs.Prelude.{IfOk};
 ghost use Rattle.elements.specs.Entries.{lesser_entry};
 ghost use Rattle.referees.specs.Questions.{OneQuestion};
 ghost use Rattle.referees.specs.Verdicts.{first_of};
@@ -17,10 +17,9 @@ pub fn ask_first<T: Ordered, R: Referee<T>>(
     b: Entry<T>,
 ) -> Result<PairVerdict, RunFault>
     ensures answers { OneQuestion R.Referee.stock referee.old referee.new (first_of T.Ordered.before a b) result }
+    ensures spends { IfOk result (λ answer. R.Referee.spends referee.old referee.new) }
 {
-    let a = Shown::of(a);
-    let b = Shown::of(b);
-    referee.first(a.sort, a.element, b.sort, b.element)
+    referee.first(Shown::from(a), Shown::from(b))
 }
 
 /// Asks a referee for the lesser of two entries, marks as elements.
@@ -30,8 +29,7 @@ pub fn ask_lesser<T: Ordered, R: Referee<T>>(
     b: Entry<T>,
 ) -> Result<Entry<T>, RunFault>
     ensures answers { OneQuestion R.Referee.stock referee.old referee.new (lesser_entry T.Ordered.before a b) result }
+    ensures spends { IfOk result (λ answer. R.Referee.spends referee.old referee.new) }
 {
-    let a = Shown::of(a);
-    let b = Shown::of(b);
-    referee.lesser(a.sort, a.element, b.sort, b.element)
+    referee.lesser(Shown::from(a), Shown::from(b))
 }

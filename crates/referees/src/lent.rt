@@ -1,9 +1,10 @@
-ghost use Rattle.std.specs.Prelude.{◌≡◌};
-ghost use Rattle.referees.specs.Loans.{StaysLent, lent_stock};
-ghost use Rattle.referees.specs.Questions.{AsksFirst, AsksLesser, AsksWeight};
+ghost use Rattle.std.specs.Prelude.{IfOk};
+ghost use Rattle.referees.specs.Loans.{lent_stock, lent_spends};
+ghost use Rattle.referees.specs.Questions.{AsksFirst, AsksLesser};
 
 use crate::referee::Referee;
-use crate::sort::Sort;
+use crate::sort::Shown;
+use crate::sums::Sums;
 use crate::verdict::{GroupVerdict, PairVerdict};
 use elements::entry::Entry;
 use elements::ordered::Ordered;
@@ -13,25 +14,24 @@ use faults::fault::RunFault;
 impl<'a, T: Ordered, R: Referee<T>> Referee<T> for &'a mut R {
     ghost stock = { lent_stock R.Referee.stock };
 
-    fn first(&mut self, sa: Sort, a: T, sb: Sort, b: T) -> Result<PairVerdict, RunFault>
-        ensures answers { AsksFirst T.Ordered.before (lent_stock R.Referee.stock) self.old self.new sa a sb b result }
-        ensures stays_lent { StaysLent self.old self.new }
+    ghost spends = { lent_spends R.Referee.spends };
+
+    fn first(&mut self, a: Shown<T>, b: Shown<T>) -> Result<PairVerdict, RunFault>
+        ensures answers { AsksFirst T.Ordered.before (lent_stock R.Referee.stock) self.old self.new a b result }
+        ensures spends { IfOk result (λ answer. lent_spends R.Referee.spends self.old self.new) }
     {
-        (**self).first(sa, a, sb, b)
+        (**self).first(a, b)
     }
 
-    fn lesser(&mut self, sa: Sort, a: T, sb: Sort, b: T) -> Result<Entry<T>, RunFault>
-        ensures answers { AsksLesser T.Ordered.before (lent_stock R.Referee.stock) self.old self.new sa a sb b result }
-        ensures stays_lent { StaysLent self.old self.new }
+    fn lesser(&mut self, a: Shown<T>, b: Shown<T>) -> Result<Entry<T>, RunFault>
+        ensures answers { AsksLesser T.Ordered.before (lent_stock R.Referee.stock) self.old self.new a b result }
+        ensures spends { IfOk result (λ answer. lent_spends R.Referee.spends self.old self.new) }
     {
-        (**self).lesser(sa, a, sb, b)
+        (**self).lesser(a, b)
     }
 
-    fn weigh(&mut self, below: u32, above: u32, k: u32, n: u32) -> Result<GroupVerdict, RunFault>
-        ensures answers { AsksWeight (lent_stock R.Referee.stock) self.old self.new below above k n result }
-        ensures stays_lent { StaysLent self.old self.new }
-    {
-        (**self).weigh(below, above, k, n)
+    fn weigh(&mut self, sums: Sums) -> Result<GroupVerdict, RunFault> {
+        (**self).weigh(sums)
     }
 
     fn left(&self) -> u32 {

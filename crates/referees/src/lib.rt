@@ -3,9 +3,11 @@
 #![tactic(auto)]
 
 pub mod asking;
+pub mod inquiry;
 pub mod lent;
 pub mod printing;
 pub mod referee;
 pub mod sort;
 pub mod stock;
+pub mod sums;
 pub mod verdict;

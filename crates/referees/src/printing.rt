@@ -1,6 +1,7 @@
 ghost use Rattle.std.specs.Prelude.{Some};
-ghost use Rattle.referees.specs.Verdicts.{pair_verdict_word, group_verdict_word};
+ghost use Rattle.referees.specs.Verdicts.{pair_verdict_word, group_verdict_word, sums_word};
 
+use crate::sums::Sums;
 use crate::verdict::{GroupVerdict, PairVerdict};
 use std::fmt;
 
@@ -22,5 +23,14 @@ impl fmt::Display for GroupVerdict {
             GroupVerdict::Higher => write!(f, "higher"),
             GroupVerdict::Done => write!(f, "done"),
         }
+    }
+}
+
+impl fmt::Display for Sums {
+    ghost output = { λ x. Some (sums_word x) };
+
+    fn fmt<W: fmt::Write>(&self, f: &mut fmt::Formatter<W>) -> fmt::Result {
+        let Sums { below, above, k, n } = self;
+        write!(f, "sum below {below}, sum above {above}, k {k}, n {n}")
     }
 }

@@ -15,5 +15,5 @@ pub fn out_of_stock() -> RunFault
 pub fn told(stock: u64) -> u32
     ensures { result ≡ told_stock stock }
 {
-    stock.min(u32::MAX as u64) as u32
+    u32::try_from(stock).unwrap_or(u32::MAX)
 }

@@ -1,22 +1,36 @@
 ghost use Rattle.std.specs.Prelude.{◌≡◌};
-ghost use Rattle.referees.specs.Verdicts.{verdict_number, first_of, weight_of};
+ghost use Rattle.referees.specs.Verdicts.{verdict_if, verdict_number, first_of, weight_of_sums};
 
+use crate::sums::Sums;
 use elements::entry::Entry;
 use elements::ordered::Ordered;
 
 /// The answer to *first*: whether A's entry is before B's.
-#[derive(Clone, Copy)]
+#[derive(Clone, Copy, Debug, PartialEq, Eq)]
 pub enum PairVerdict {
     Before,
     NotBefore,
 }
 
 /// The answer to *weigh*: where the element of rank k is, seen from the place asked about.
-#[derive(Clone, Copy)]
+#[derive(Clone, Copy, Debug, PartialEq, Eq)]
 pub enum GroupVerdict {
     Lower,
     Higher,
     Done,
+}
+
+/// The verdict of a test whether A's entry is before B's.
+impl From<bool> for PairVerdict {
+    ghost from_gives = { λ before verdict. verdict ≡ verdict_if before };
+
+    fn from(before: bool) -> PairVerdict {
+        if before {
+            PairVerdict::Before
+        } else {
+            PairVerdict::NotBefore
+        }
+    }
 }
 
 impl PairVerdict {
@@ -24,11 +38,7 @@ impl PairVerdict {
     pub fn on<T: Ordered>(a: Entry<T>, b: Entry<T>) -> PairVerdict
         ensures { result ≡ first_of T.Ordered.before a b }
     {
-        if a.is_before(b) {
-            PairVerdict::Before
-        } else {
-            PairVerdict::NotBefore
-        }
+        PairVerdict::from(a.is_before(b))
     }
 
     pub fn number(self) -> u8
@@ -43,12 +53,12 @@ impl PairVerdict {
 
 impl GroupVerdict {
     /// The verdict on a group's sums. They are added in 64 bits, so that nothing wraps.
-    pub fn on(below: u32, above: u32, k: u32, n: u32) -> GroupVerdict
-        ensures { result ≡ weight_of below above k n }
+    pub fn on(sums: Sums) -> GroupVerdict
+        ensures { result ≡ weight_of_sums sums }
     {
-        if below >= k {
+        if sums.below >= sums.k {
             GroupVerdict::Lower
-        } else if above as u64 + k as u64 > n as u64 {
+        } else if sums.above as u64 + sums.k as u64 > sums.n as u64 {
             GroupVerdict::Higher
         } else {
             GroupVerdict::Done

@@ -4,6 +4,7 @@
 use elements::delay::Delay;
 use elements::link_level::LinkLevel;
 use faults::fault::Seat;
+use sheets::kind::Kind;
 use sheets::reader::read_sheet;
 use sheets::sheet_element::SheetElement;
 use std::alloc::{AllocError, Global};
@@ -128,8 +129,8 @@ fn tell<T: SheetElement + Display>(
     seat: Option<Seat>,
     list: &mut [T],
 ) -> io::Result<()> {
-    let name = case.name;
-    match read_sheet(case.bytes, seat, list) {
+    let Case { name, bytes } = case;
+    match read_sheet(bytes, seat, list) {
         Ok(count) => {
             print!(rt; "{name}: {count} read, slice")?;
             for x in list.iter() {
@@ -146,10 +147,8 @@ fn zeros(heap: Global, count: u32) -> Result<Vec<u8>, AllocError> {
     let body = count.saturating_mul(4);
     let mut bytes = vec![in heap; 1]?;
     bytes.extend_from_slice(&body.saturating_add(1).to_be_bytes())?;
-    bytes.push(1)?;
-    for _ in 0..body {
-        bytes.push(0)?;
-    }
+    bytes.push(Kind::Delays.byte())?;
+    bytes.resize(6 + body as usize, 0)?;
     Ok(bytes)
 }
 

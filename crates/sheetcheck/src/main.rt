@@ -10,7 +10,7 @@ use summaries::checking::check_sheet;
 
 /// One byte more than the longest sheet has, so that a longer one is seen to be too long: a header of 6 bytes, and
 /// 65,536 elements of 8.
-const MOST_BYTES: u64 = 6 + 65_536 * 8 + 1;
+const MOST_BYTES: u64 = 6 + MOST_ELEMENTS as u64 * 8 + 1;
 
 fn main(rt: HostRuntime) -> anyhow::Result<()> {
     let heap = rt.alloc();

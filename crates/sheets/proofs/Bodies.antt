@@ -1,6 +1,5 @@
 -- The bytes of a list's elements: how many there are, where each element's stand, and that they tell the list.
-use Rattle.std.proofs.Common.{◌≡◌, ℕ, zero, suc, ◌+◌, ◌*◌, ◌<◌, ◌≤◌, List, [], ◌∷◌, ◌++◌, length, get_or, take, drop, sym, refl, ap, ◌∙◌, subst, le_of_suc-le-suc, not-suc-le-zero, mul-le-mul_right, suc-mul, zero-mul, arith, length-append, length-drop, take-append-drop, length-take-le}
-use native.Mathlib.Nat.{eq_of_mul-eq-mul_right}
+use Rattle.std.proofs.Common.{◌≡◌, ℕ, zero, suc, ◌+◌, ◌*◌, ◌<◌, ◌≤◌, List, [], ◌∷◌, ◌++◌, length, get_or, take, drop, sym, refl, ap, ◌∙◌, subst, le_of_suc-le-suc, not-suc-le-zero, suc-mul, zero-mul, arith, length-append, length-drop, take-append-drop, length-take-le}
 use lib.Seq.{drop-append-add}
 use Rattle.std.proofs.lemmas.List.{take_at, drop_at, get_or-drop}
 use Rattle.sheets.specs.Layouts.{Format, FixedWidth, Distinct, Complete, Bytes, packed}
@@ -63,13 +62,3 @@ module _ {E : Type 0} (f : Format E) (fixed : FixedWidth f) where
       part ≡ take f.width (drop (i * f.width) bytes) → f.coded (get_or xs i d) ≡ part
   part_at xs bytes part i d e h p =
       sym (p ∙ ap (λ (l : List ℕ). take f.width (drop (i * f.width) l)) (sym e) ∙ packed_at xs i d h)
-
-  -- how many elements a body has
-  pub count_of : (1 ≤ f.width) → (xs : List E) (bytes : List ℕ) (n : ℕ) → packed f xs ≡ bytes → length bytes ≡ n * f.width → length xs ≡ n
-  count_of one xs bytes n e h =
-      let p : length xs * f.width ≡ n * f.width = omega (arith, ap length e, length-packed xs) in
-      eq_of_mul-eq-mul_right f.width one (length xs) n p
-
--- the end of the element at index i lies within the bytes of n elements
-pub within_body : (i n w : ℕ) → i < n → i * w + w ≤ n * w
-within_body i n w h = omega (arith, suc-mul i w, mul-le-mul_right w h)

@@ -1,7 +1,7 @@
 -- Which refusal decides, and that a sheet is acceptable exactly if none applies.
-use Rattle.std.proofs.Common.{◌≡◌, ℕ, suc, ◌+◌, ◌-◌, ◌*◌, ◌/◌, ◌%◌, ◌<◌, ◌≤◌, Bool, true, false, leb, ◌⊎◌, List, length, get_or, drop, None, Ok, Err, Option, Result, sym, refl, ap, ◌∙◌, subst, inl, inr, mul-le-mul_right, suc-mul, div-add-mod', arith, length-drop}
+use Rattle.std.proofs.Common.{◌≡◌, ℕ, suc, ◌+◌, ◌-◌, ◌*◌, ◌/◌, ◌%◌, ◌<◌, ◌≤◌, Bool, false, ◌⊎◌, List, length, get_or, drop, None, Ok, Err, Option, Result, sym, ap, ◌∙◌, subst, inl, inr, mul-le-mul_right, suc-mul, div-add-mod', arith, length-drop}
 use native.Mathlib.Nat.{mul-mod_left}
-use Rattle.std.proofs.lemmas.Bool.{both_ways, cases_lt, leb-true, leb-false}
+use Rattle.std.proofs.lemmas.Bool.{both_ways, cases_lt}
 use Rattle.elements.specs.Orders.{IsOrder, Trichotomy, Transitive}
 use Rattle.elements.proofs.Indexes.{at_index}
 use Rattle.elements.proofs.OrderFacts.{neighbours_never_fall}
@@ -15,7 +15,7 @@ use Rattle.sheets.specs.HeaderChecks.{HeaderPasses, HeaderFails}
 use Rattle.sheets.specs.Refusals.{FirstFall, Body, Applies, Acceptable}
 use Rattle.faults.specs.declared.fault.Seat.{Seat}
 use Rattle.faults.specs.declared.fault.SheetFault.{SheetFault}
-use Rattle.sheets.specs.Readings.{FallAt, Filled, for_seat, Reads, Answers, ReaderLaw}
+use Rattle.sheets.specs.Readings.{FallAt, Filled, Answers, ReaderLaw}
 use Rattle.sheets.proofs.Bodies.{packed_apart, bytes_drop, some_list}
 use Rattle.sheets.proofs.LayoutFacts.{layout_long, layout_counted, layouts_apart, laid_out}
 
@@ -180,37 +180,15 @@ module _ {E : Type 0} (before : E → E → Bool) (f : Format E) (bytes : List �
   pub acceptable_one : Carried before f → (xs ys : List E) → Acceptable before f bytes room xs → Acceptable before f bytes room ys → xs ≡ ys
   acceptable_one law xs ys a b = layouts_apart f law.fixed law.few law.some law.distinct xs ys (sym a.laid_out ∙ b.laid_out)
 
-  -- how many elements the bytes after a header have, as the reader computes it
-  pub body_count : HeaderPasses f bytes → (b : List ℕ) (w : ℕ) → b ≡ drop 6 bytes → w ≡ f.width → length b ≡ length b / w * f.width
-  body_count p b w e k =
-      let n : length b ≡ length bytes - 6 = ap length e ∙ length-drop 6 bytes in
-      sym ((λ i. n i / k i * f.width) ∙ whole_count p ∙ sym n)
-
-  pub body_few : (1 ≤ f.width) → HeaderPasses f bytes → (b : List ℕ) (w : ℕ) → b ≡ drop 6 bytes → w ≡ f.width → length b / w ≤ most
-  body_few one p b w e k =
-      let n : length b ≡ length bytes - 6 = ap length e ∙ length-drop 6 bytes in
-      subst (λ (m : ℕ). m ≤ most) (sym (λ i. n i / k i)) (few_count one p)
-
   -- the list in the bytes after a header
-  pub the_list : Carried before f → Bytes bytes → HeaderPasses f bytes → (b : List ℕ) (w : ℕ) → b ≡ drop 6 bytes → w ≡ f.width →
-      (xs : List E) × (packed f xs ≡ b) × Body f bytes xs × (length xs ≡ length b / w)
-  the_list law h p b w e k =
+  pub the_list : Carried before f → Bytes bytes → HeaderPasses f bytes → (b : List ℕ) → b ≡ drop 6 bytes →
+      (xs : List E) × (packed f xs ≡ b) × Body f bytes xs × (length xs ≡ length b / f.width) × (length xs ≤ most)
+  the_list law h p b e =
+      let n : length b ≡ length bytes - 6 = ap length e ∙ length-drop 6 bytes in
+      let count : length b ≡ length b / f.width * f.width = sym ((λ i. n i / f.width * f.width) ∙ whole_count p ∙ sym n) in
       let bs : Bytes b = subst Bytes (sym e) (bytes_drop 6 bytes h) in
-      let r = some_list f law.fixed law.complete (length b / w) b bs (body_count p b w e k) in
-      (r.0, r.1, r.1 ∙ e, r.2)
-
--- what the test for room in the slice tells
-pub room : (n m : ℕ) → true ≡ leb n m → n ≤ m
-room n m e = leb-true n m (sym e)
-
-pub no_room : (n m : ℕ) → false ≡ leb n m → m < n
-no_room n m e = leb-false n m (sym e)
-
--- an answer stays what it is when it is told to a seat
-pub answer_told : {E : Type 0} (before : E → E → Bool) (f : Format E) (bytes : List ℕ) (was is : List E) (seat : Option Seat) (a : Result ℕ Refusal) (r : Result ℕ SheetFault) →
-    r ≡ for_seat seat a → Reads before f bytes was is a → Answers before f bytes was is seat r
-answer_told before f bytes was is seat (Ok n) r e h = subst (Answers before f bytes was is seat) (sym e) h
-answer_told before f bytes was is seat (Err q) r e h = subst (Answers before f bytes was is seat) (sym e) (h, refl)
+      let r = some_list f law.fixed law.complete (length b / f.width) b bs count in
+      (r.0, r.1, r.1 ∙ e, r.2, subst (λ (m : ℕ). m ≤ most) (sym (r.2 ∙ (λ i. n i / f.width))) (few_count law.some p))
 
 -- the reader's law follows from its answer
 pub reader_law : {E : Type 0} (before : E → E → Bool) (f : Format E) (bytes : List ℕ) (was is : List E) → Carried before f →

@@ -1,4 +1,5 @@
 pub mod Bodies
-pub mod Loops
+pub mod Filling
+pub mod Falls
 pub mod LayoutFacts
 pub mod Decisions

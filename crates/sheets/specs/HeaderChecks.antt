@@ -1,5 +1,5 @@
 -- The checks on a header, as the reader makes them. No public contract cites these: Refusals.antt has the conditions.
-use Rattle.std.specs.Prelude.{◌≡◌, ℕ, ◌-◌, ◌*◌, ◌%◌, ◌<◌, ◌≤◌, ◌⊎◌, List, length, Ok, Err, Result, ◌≢◌}
+use Rattle.std.specs.Prelude.{◌≡◌, ℕ, ◌-◌, ◌*◌, ◌%◌, ◌<◌, ◌≤◌, ◌⊎◌, List, length, drop, Ok, Err, Result, ◌≢◌}
 use Rattle.faults.specs.declared.refusal.Refusal.{Refusal}
 use Rattle.faults.specs.declared.refusal.Refusal.TheVariants.{SheetTooShort, VersionUnknown, CountDiffers, KindNotWanted, BodyNotAList, OutOfOrder, SliceTooShort, SeatsOutOfBounds, ListTooLong, RangeNotPlaces, RankOutOfBounds, OutsideRange, NotItsTurn, Impossible, ReportMissing, StockEmpty}
 use Rattle.sheets.specs.Layouts.{Format}
@@ -36,7 +36,7 @@ HeaderFails f bytes Impossible = ⊥
 HeaderFails f bytes ReportMissing = ⊥
 HeaderFails f bytes StockEmpty = ⊥
 
--- what the check of a header answers
-abbrev pub HeaderChecked : {E : Type 0} → Format E → List ℕ → Result (Unit {0}) Refusal → Type 0
-HeaderChecked f bytes (Ok _) = HeaderPasses f bytes
-HeaderChecked f bytes (Err r) = HeaderFails f bytes r
+-- what the check of a header answers: the bytes after it, or the check that fails
+abbrev pub HeaderChecked : {E B : Type 0} → (B → List ℕ) → Format E → List ℕ → Result B Refusal → Type 0
+HeaderChecked body f bytes (Ok b) = HeaderPasses f bytes × (body b ≡ drop 6 bytes)
+HeaderChecked body f bytes (Err r) = HeaderFails f bytes r

@@ -1,8 +1,9 @@
 -- The eight bytes of a link level.
-use Rattle.std.specs.Prelude.{◌≡◌, ℕ, suc, ◌-◌, ◌^◌, ◌<◌, List, [], ◌∷◌, ◌++◌, length, drop, ℤ, pos, negsuc, ◌≤ℤ◌, slice_index, refl}
-use Rattle.std.proofs.Common.{sym, ap, ◌∙◌, arith, to_z}
+use Rattle.std.specs.Prelude.{◌≡◌, ℕ, suc, ◌+◌, ◌-◌, ◌^◌, ◌<◌, List, [], ◌∷◌, ◌++◌, length, drop, ℤ, pos, negsuc, ◌≤ℤ◌, slice_index, refl}
+use Rattle.std.proofs.Common.{sym, ap, ◌∙◌, subst, arith, to_z}
 use Rattle.std.specs.Int.{w32}
 use Rattle.std.proofs.lemmas.Int.{ints}
+use Rattle.std.proofs.lemmas.List.{get_or-drop}
 use Rattle.std.proofs.lemmas.Bool.Decides.{nat_tests}
 use Rattle.elements.specs.declared.link_level.LinkLevel.{LinkLevel}
 use Rattle.elements.specs.Alike.{level_alike}
@@ -37,11 +38,7 @@ digits_of_eight (a ∷ b ∷ c ∷ d ∷ rest) e h =
     cc
 
 drop-bytes : (bytes : List ℕ) → Bytes bytes → Bytes (drop 4 bytes)
-drop-bytes [] h i = omega arith
-drop-bytes (a ∷ []) h i = omega arith
-drop-bytes (a ∷ b ∷ []) h i = omega arith
-drop-bytes (a ∷ b ∷ c ∷ []) h i = omega arith
-drop-bytes (a ∷ b ∷ c ∷ d ∷ rest) h i = h (suc (suc (suc (suc i))))
+drop-bytes bytes h i = subst (λ (b : ℕ). b < 256) (sym (get_or-drop 4 bytes i 0)) (h (4 + i))
 
 bits_low : (n : ℕ) → n < 2 ^ 32 → negsuc (2 ^ 31 - 1) ≤ℤ to_z w32 n
 bits_low n h = grind (arith, ints, nat_tests)

@@ -1,3 +1,4 @@
+pub mod Kinds
 pub mod Layouts
 pub mod Formats
 pub mod Headers

@@ -3,7 +3,7 @@ ghost use Rattle.elements.specs.Alike.{delay_alike};
 ghost use Rattle.sheets.specs.Digits.{digits_apart, first_four, first_four_fits, digits_of_list};
 ghost use Rattle.std.proofs.Common.{rules};
 
-use crate::header::number_in;
+use crate::kind::Kind;
 use crate::sheet_element::SheetElement;
 use elements::delay::Delay;
 
@@ -18,8 +18,8 @@ impl SheetElement for Delay {
 
     ghost complete = { λ bytes e h. (record { micros = first_four bytes; fits = first_four_fits bytes h }, digits_of_list bytes e h) };
 
-    fn kind_byte() -> u8 {
-        1
+    fn kind() -> Kind {
+        Kind::Delays
     }
 
     fn bytes_each() -> usize {
@@ -27,11 +27,7 @@ impl SheetElement for Delay {
     }
 
     fn decode(bytes: &[u8]) -> Option<Delay> {
-        let [a, b, c, d] = bytes else {
-            return None;
-        };
-        Some(Delay {
-            micros: number_in(*a, *b, *c, *d),
-        })
+        let micros = u32::from_be_bytes(<[u8; 4]>::try_from(bytes).ok()?);
+        Some(Delay { micros })
     }
 }

@@ -2,8 +2,10 @@
 #![tactic(auto)]
 
 mod body;
+mod body_reading;
 pub mod delay_sheet;
 mod header;
+pub mod kind;
 pub mod link_level_sheet;
 pub mod reader;
 pub mod sheet_element;

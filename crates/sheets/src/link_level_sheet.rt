@@ -1,21 +1,22 @@
 ghost use Rattle.std.specs.Prelude.{◌≡◌};
 ghost use Rattle.std.specs.Int.{w32};
 ghost use Rattle.std.proofs.Common.{to_z, rules};
+ghost use Rattle.sheets.specs.Digits.{first_four};
 ghost use Rattle.sheets.specs.Formats.{level_format};
 ghost use Rattle.sheets.specs.Levels.{levels_distinct, level_of_bytes};
 
-use crate::header::number_in;
+use crate::kind::Kind;
 use crate::sheet_element::SheetElement;
 use elements::link_level::LinkLevel;
 
-/// The link level whose level has these bits, in two's complement.
-fn level_in(bits: u32, link: u32) -> LinkLevel
-    ensures level { result.level ≡ to_z w32 bits }
-    ensures link { result.link ≡ link }
+/// The link level with these bytes.
+fn level_of(level: [u8; 4], link: [u8; 4]) -> LinkLevel
+    ensures level { result.level ≡ to_z w32 (first_four level) }
+    ensures link { result.link ≡ first_four link }
 {
     LinkLevel {
-        level: bits.cast_signed(),
-        link,
+        level: i32::from_be_bytes(level),
+        link: u32::from_be_bytes(link),
     }
 }
 
@@ -30,8 +31,8 @@ impl SheetElement for LinkLevel {
 
     ghost complete = { level_of_bytes };
 
-    fn kind_byte() -> u8 {
-        2
+    fn kind() -> Kind {
+        Kind::LinkLevels
     }
 
     fn bytes_each() -> usize {
@@ -39,9 +40,7 @@ impl SheetElement for LinkLevel {
     }
 
     fn decode(bytes: &[u8]) -> Option<LinkLevel> {
-        let [a, b, c, d, e, f, g, h] = bytes else {
-            return None;
-        };
-        Some(level_in(number_in(*a, *b, *c, *d), number_in(*e, *f, *g, *h)))
+        let (level, link) = bytes.split_first_chunk()?;
+        Some(level_of(*level, link.try_into().ok()?))
     }
 }

@@ -1,15 +1,17 @@
 ghost use Rattle.std.specs.Prelude.{◌≡◌, ◌<◌, ◌≤◌};
+ghost use Rattle.sheets.specs.Kinds.{byte_of};
 ghost use Rattle.sheets.specs.Layouts.{Format, Decoded, FixedWidth, Distinct, Complete};
 
+use crate::kind::Kind;
 use elements::ordered::Ordered;
 
 /// An ordered type whose lists are carried on sheets: each element has its own bytes, as many as every other.
 pub trait SheetElement: Ordered {
     ghost format: { Format Self };
 
-    /// The byte that tells a sheet of this type.
-    fn kind_byte() -> u8
-        ensures { result ≡ format.kind };
+    /// The kind of the sheets of this type.
+    fn kind() -> Kind
+        ensures { byte_of result ≡ format.kind };
 
     /// How many bytes an element has.
     fn bytes_each() -> usize

@@ -1,12 +1,14 @@
-ghost use Rattle.std.specs.Prelude.{◌≡◌};
-ghost use Rattle.referees.specs.Questions.{AsksFirst, AsksLesser, AsksWeight};
+ghost use Rattle.std.specs.Prelude.{◌≡◌, IfOk};
+ghost use Rattle.referees.specs.Questions.{OneQuestion, AsksFirst, AsksLesser};
 ghost use Rattle.spares.specs.Spares.{SpendsInTurn, spare_stock};
 
 use elements::entry::Entry;
 use elements::ordered::Ordered;
 use faults::fault::RunFault;
+use referees::inquiry::{First, Inquiry, Lesser};
 use referees::referee::Referee;
-use referees::sort::Sort;
+use referees::sort::Shown;
+use referees::sums::Sums;
 use referees::verdict::{GroupVerdict, PairVerdict};
 
 /// A layer over two referees, the second of which is used once the first is empty.
@@ -22,42 +24,44 @@ impl<R, S> Spare<R, S> {
     {
         Spare { main, spare }
     }
+
+    /// Puts a question to the first, or to the second once the first is empty.
+    fn put_in_turn<T: Ordered, Q: Inquiry<T>>(&mut self, question: Q) -> Result<Q::Answer, RunFault>
+    where
+        R: Referee<T>,
+        S: Referee<T>,
+        ensures answers { OneQuestion (spare_stock R.Referee.stock S.Referee.stock) self.old self.new (Q.truth question) result }
+        ensures spends { IfOk result (λ answer. SpendsInTurn R.Referee.stock R.Referee.spends S.Referee.stock S.Referee.spends self.old self.new) }
+    {
+        if self.main.left() > 0 {
+            question.put(&mut self.main)
+        } else {
+            question.put(&mut self.spare)
+        }
+    }
 }
 
 impl<T: Ordered, R: Referee<T>, S: Referee<T>> Referee<T> for Spare<R, S> {
     ghost stock = { spare_stock R.Referee.stock S.Referee.stock };
 
-    fn first(&mut self, sa: Sort, a: T, sb: Sort, b: T) -> Result<PairVerdict, RunFault>
-        ensures answers { AsksFirst T.Ordered.before (spare_stock R.Referee.stock S.Referee.stock) self.old self.new sa a sb b result }
-        ensures in_turn { SpendsInTurn R.Referee.stock S.Referee.stock self.old self.new result }
+    ghost spends = { SpendsInTurn R.Referee.stock R.Referee.spends S.Referee.stock S.Referee.spends };
+
+    fn first(&mut self, a: Shown<T>, b: Shown<T>) -> Result<PairVerdict, RunFault>
+        ensures answers { AsksFirst T.Ordered.before (spare_stock R.Referee.stock S.Referee.stock) self.old self.new a b result }
+        ensures spends { IfOk result (λ answer. SpendsInTurn R.Referee.stock R.Referee.spends S.Referee.stock S.Referee.spends self.old self.new) }
     {
-        if self.main.left() > 0 {
-            self.main.first(sa, a, sb, b)
-        } else {
-            self.spare.first(sa, a, sb, b)
-        }
+        self.put_in_turn(First { a, b })
     }
 
-    fn lesser(&mut self, sa: Sort, a: T, sb: Sort, b: T) -> Result<Entry<T>, RunFault>
-        ensures answers { AsksLesser T.Ordered.before (spare_stock R.Referee.stock S.Referee.stock) self.old self.new sa a sb b result }
-        ensures in_turn { SpendsInTurn R.Referee.stock S.Referee.stock self.old self.new result }
+    fn lesser(&mut self, a: Shown<T>, b: Shown<T>) -> Result<Entry<T>, RunFault>
+        ensures answers { AsksLesser T.Ordered.before (spare_stock R.Referee.stock S.Referee.stock) self.old self.new a b result }
+        ensures spends { IfOk result (λ answer. SpendsInTurn R.Referee.stock R.Referee.spends S.Referee.stock S.Referee.spends self.old self.new) }
     {
-        if self.main.left() > 0 {
-            self.main.lesser(sa, a, sb, b)
-        } else {
-            self.spare.lesser(sa, a, sb, b)
-        }
+        self.put_in_turn(Lesser { a, b })
     }
 
-    fn weigh(&mut self, below: u32, above: u32, k: u32, n: u32) -> Result<GroupVerdict, RunFault>
-        ensures answers { AsksWeight (spare_stock R.Referee.stock S.Referee.stock) self.old self.new below above k n result }
-        ensures in_turn { SpendsInTurn R.Referee.stock S.Referee.stock self.old self.new result }
-    {
-        if self.main.left() > 0 {
-            self.main.weigh(below, above, k, n)
-        } else {
-            self.spare.weigh(below, above, k, n)
-        }
+    fn weigh(&mut self, sums: Sums) -> Result<GroupVerdict, RunFault> {
+        self.put_in_turn(sums)
     }
 
     fn left(&self) -> u32 {

@@ -1,4 +1,4 @@
--- The stock of a strip, and which words a question takes. A refused one takes none.
+-- The stock of a strip, and which words a question takes.
 use Rattle.std.specs.Prelude.{◌≡◌, ℕ, ◌/◌, ◌<◌, ◌≤◌, length, drop, Ok, Err, Result, slice_index}
 use Rattle.faults.specs.declared.fault.RunFault.{RunFault}
 use Rattle.referees.specs.Questions.{out_of_stock}
@@ -15,6 +15,5 @@ FirstTwo old new (Ok words) = (2 ≤ length old.words.now) × (words.first ≡ s
 FirstTwo old new (Err fault) = (fault ≡ out_of_stock) × (length old.words.now < 2) × (new ≡ old)
 
 -- an answered question takes a strip's first two unused words and no other
-abbrev pub TakesTwoWords : {X : Type 0} → Strip → Strip → Result X RunFault → Type 0
-TakesTwoWords old new (Ok answer) = new.words.now ≡ drop 2 old.words.now
-TakesTwoWords old new (Err fault) = new ≡ old
+abbrev pub TakesTwoWords : Strip → Strip → Type 0
+TakesTwoWords old new = new.words.now ≡ drop 2 old.words.now

@@ -1,8 +1,8 @@
-ghost use Rattle.std.specs.Prelude.{◌≡◌};
+ghost use Rattle.std.specs.Prelude.{◌≡◌, IfOk};
 ghost use Rattle.elements.specs.Entries.{entry_before};
-ghost use Rattle.referees.specs.Questions.{AsksFirst, AsksLesser, AsksWeight};
+ghost use Rattle.referees.specs.Questions.{AsksFirst, AsksLesser};
 ghost use Rattle.referees.specs.Shown.{entry_of};
-ghost use Rattle.referees.specs.Verdicts.{weight_of};
+ghost use Rattle.referees.specs.Verdicts.{weight_of_sums};
 ghost use Rattle.strips.specs.Strips.{FirstTwo, TakesTwoWords, strip_stock};
 
 use crate::two_words::TwoWords;
@@ -11,8 +11,9 @@ use elements::ordered::Ordered;
 use elements::placed::Placed;
 use faults::fault::RunFault;
 use referees::referee::Referee;
-use referees::sort::Sort;
+use referees::sort::Shown;
 use referees::stock::{out_of_stock, told};
+use referees::sums::Sums;
 use referees::verdict::{GroupVerdict, PairVerdict};
 
 /// A referee that uses up a lent strip of words, two a question, and splits by them whatever it compares.
@@ -32,71 +33,68 @@ impl<'a> Strip<'a> {
     fn take_two(&mut self) -> Result<TwoWords, RunFault>
         ensures { FirstTwo self.old self.new result }
     {
-        if self.words.len() < 2 {
+        let [first, second, rest @ ..] = self.words else {
             return Err(out_of_stock());
-        }
-        let (two, rest) = self.words.split_at(2);
+        };
         self.words = rest;
-        Ok(TwoWords::of(two[0], two[1]))
+        Ok(TwoWords::of(*first, *second))
     }
 }
 
 /// Whether A's entry is before B's: elements by their places, split by the words and joined, and marks as marks. The
 /// element that goes with a mark is split and joined too, so that a mark takes the same work.
-fn before_by_words<T: Placed>(sa: Sort, a: T, sb: Sort, b: T, words: TwoWords) -> bool
-    ensures { result ≡ entry_before T.Ordered.before (entry_of sa a) (entry_of sb b) }
+fn before_by_words<T: Placed>(a: Shown<T>, b: Shown<T>, words: TwoWords) -> bool
+    ensures { result ≡ entry_before T.Ordered.before (entry_of a) (entry_of b) }
 {
-    let (x, y) = words.split(a.place_number(), b.place_number()).join();
-    match (sa, sb) {
-        (Sort::Element, Sort::Element) => x < y,
-        (Sort::Below, Sort::Below) => false,
-        (Sort::Below, _) => true,
-        (Sort::Element, Sort::Above) => true,
-        _ => false,
-    }
+    let (x, y) = words
+        .split(a.element.place_number(), b.element.place_number())
+        .join();
+    let a = Entry::from(Shown {
+        sort: a.sort,
+        element: x,
+    });
+    let b = Entry::from(Shown {
+        sort: b.sort,
+        element: y,
+    });
+    a.is_before(b)
 }
 
 /// The verdict on a group's sums, split by the words and joined.
-fn weight_by_words(below: u32, above: u32, k: u32, n: u32, words: TwoWords) -> GroupVerdict
-    ensures { result ≡ weight_of below above k n }
+fn weight_by_words(sums: Sums, words: TwoWords) -> GroupVerdict
+    ensures { result ≡ weight_of_sums sums }
 {
-    let (below, above) = words.split(below as u64, above as u64).join();
-    GroupVerdict::on(below as u32, above as u32, k, n)
+    let (below, above) = words.split(sums.below as u64, sums.above as u64).join();
+    GroupVerdict::on(Sums {
+        below: below as u32,
+        above: above as u32,
+        ..sums
+    })
 }
 
 impl<'a, T: Placed> Referee<T> for Strip<'a> {
     ghost stock = { strip_stock };
 
-    fn first(&mut self, sa: Sort, a: T, sb: Sort, b: T) -> Result<PairVerdict, RunFault>
-        ensures answers { AsksFirst T.Ordered.before strip_stock self.old self.new sa a sb b result }
-        ensures two_words { TakesTwoWords self.old self.new result }
+    ghost spends = { TakesTwoWords };
+
+    fn first(&mut self, a: Shown<T>, b: Shown<T>) -> Result<PairVerdict, RunFault>
+        ensures answers { AsksFirst T.Ordered.before strip_stock self.old self.new a b result }
+        ensures spends { IfOk result (λ answer. TakesTwoWords self.old self.new) }
     {
-        let words = self.take_two()?;
-        if before_by_words(sa, a, sb, b, words) {
-            Ok(PairVerdict::Before)
-        } else {
-            Ok(PairVerdict::NotBefore)
-        }
+        let before = before_by_words(a, b, self.take_two()?);
+        Ok(PairVerdict::from(before))
     }
 
-    fn lesser(&mut self, sa: Sort, a: T, sb: Sort, b: T) -> Result<Entry<T>, RunFault>
-        ensures answers { AsksLesser T.Ordered.before strip_stock self.old self.new sa a sb b result }
-        ensures two_words { TakesTwoWords self.old self.new result }
+    fn lesser(&mut self, a: Shown<T>, b: Shown<T>) -> Result<Entry<T>, RunFault>
+        ensures answers { AsksLesser T.Ordered.before strip_stock self.old self.new a b result }
+        ensures spends { IfOk result (λ answer. TakesTwoWords self.old self.new) }
     {
-        let words = self.take_two()?;
-        if before_by_words(sa, a, sb, b, words) {
-            Ok(sa.entry(a))
-        } else {
-            Ok(sb.entry(b))
-        }
+        let before = before_by_words(a, b, self.take_two()?);
+        Ok(Entry::from(if before { a } else { b }))
     }
 
-    fn weigh(&mut self, below: u32, above: u32, k: u32, n: u32) -> Result<GroupVerdict, RunFault>
-        ensures answers { AsksWeight strip_stock self.old self.new below above k n result }
-        ensures two_words { TakesTwoWords self.old self.new result }
-    {
-        let words = self.take_two()?;
-        Ok(weight_by_words(below, above, k, n, words))
+    fn weigh(&mut self, sums: Sums) -> Result<GroupVerdict, RunFault> {
+        Ok(weight_by_words(sums, self.take_two()?))
     }
 
     fn left(&self) -> u32 {

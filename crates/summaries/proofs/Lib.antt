@@ -1,1 +1,1 @@
-pub mod FilledSlices
+pub mod ReadAs

@@ -6,6 +6,8 @@ use Rattle.elements.specs.LinkLevels.{level_before}
 use Rattle.elements.specs.declared.delay.Delay.{Delay}
 use Rattle.elements.specs.declared.link_level.LinkLevel.{LinkLevel}
 use Rattle.sheets.specs.Formats.{delay_format, level_format}
+use Rattle.sheets.specs.declared.kind.Kind.{Kind}
+use Rattle.sheets.specs.declared.kind.Kind.TheVariants as kind
 use Rattle.sheets.specs.Headers.{kind_of}
 use Rattle.sheets.specs.Refusals.{Acceptable}
 use Rattle.summaries.specs.Summaries.{Checks, Summarizes}
@@ -16,6 +18,11 @@ use Rattle.summaries.specs.declared.summary.Report.TheVariants.{Delays, LinkLeve
 -- a sheet is read as one of link levels where it calls itself so, and else as one of delays
 abbrev pub OfLevels : List ℕ → Type 0
 OfLevels bytes = kind_of bytes ≡ level_format.kind
+
+-- the kind as which a sheet is read
+abbrev pub IsReadAs : List ℕ → Kind → Type 0
+IsReadAs bytes kind.Delays = OfLevels bytes → ⊥
+IsReadAs bytes kind.LinkLevels = OfLevels bytes
 
 module _ (bytes : List ℕ) (delays delays_after : List Delay) (levels levels_after : List LinkLevel) where
   abbrev pub ChecksEither : Result Report SheetFault → Type 0

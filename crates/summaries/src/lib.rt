@@ -2,5 +2,7 @@
 #![tactic(auto)]
 
 pub mod checking;
+mod in_order;
 pub mod printing;
 pub mod summary;
+mod summing;

@@ -1,14 +1,13 @@
 ghost use Rattle.summaries.specs.Words.{at_rank_shown, summary_shown, report_shown};
 
-use crate::summary::{AtRank, Report, Summary};
+use crate::summary::{AtRank, Highlights, Report, Summary};
 use std::fmt;
 
 impl<T: fmt::Display> fmt::Display for AtRank<T> {
     ghost output = { at_rank_shown T.Display.output };
 
     fn fmt<W: fmt::Write>(&self, f: &mut fmt::Formatter<W>) -> fmt::Result {
-        let rank = self.rank;
-        let element = &self.element;
+        let AtRank { rank, element } = self;
         write!(f, "{element} (rank {rank})")
     }
 }
@@ -17,14 +16,17 @@ impl<T: fmt::Display> fmt::Display for Summary<T> {
     ghost output = { summary_shown T.Display.output };
 
     fn fmt<W: fmt::Write>(&self, f: &mut fmt::Formatter<W>) -> fmt::Result {
-        let count = self.count;
-        match &self.highlights {
+        let Summary { count, highlights } = self;
+        match highlights {
             None => write!(f, "elements: {count} (the list is empty)"),
-            Some(told) => {
-                let lowest = &told.lowest;
-                let median = &told.median;
-                let ninetieth = &told.ninetieth;
-                let highest = &told.highest;
+            Some(
+                Highlights {
+                    lowest,
+                    median,
+                    ninetieth,
+                    highest,
+                },
+            ) => {
                 write!(
                     f,
                     "elements: {count}\nlowest: {lowest}\nmedian: {median}\n90th percentile: {ninetieth}\nhighest: {highest}"

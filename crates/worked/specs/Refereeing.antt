@@ -23,7 +23,6 @@ use Rattle.questions.specs.declared.question.Question.TheVariants as Q
 use Rattle.questions.specs.declared.question.Answer.TheVariants as A
 use Rattle.plays.specs.Plays.{line_at}
 use Rattle.plays.specs.Words.{line_shown}
-use Rattle.plays.specs.declared.line.Outcome.TheVariants.{Answered, Refused}
 use Rattle.piles.specs.Piles.{pile_stock}
 
 pub record Verdicts : Type 0 where
@@ -42,7 +41,7 @@ pub record Verdicts : Type 0 where
 pub record Marks : Type 0 where
   pub mark_shown : shown_of {E = ℕ} 0 Above ≡ record { sort = AboveSort; element = 0 }
   pub element_shown : shown_of {E = ℕ} 0 (Element 12) ≡ record { sort = ElementSort; element = 12 }
-  pub mark_taken : entry_of {E = ℕ} BelowSort 12 ≡ Below
+  pub mark_taken : entry_of {E = ℕ} (record { sort = BelowSort; element = 12 }) ≡ Below
 
 abbrev plain : ℕ → Plain
 plain stock = record { stock = stock }
@@ -69,15 +68,19 @@ pub record Questions : Type 0 where
   pub not_late : OneQuestion plain_stock (plain 0) (plain 0) Before answered → ⊥
   pub not_untrue : OneQuestion plain_stock (plain 2) (plain 1) NotBefore answered → ⊥
 
+-- a plain referee changes nothing besides its stock
+abbrev nothing_else : Plain → Plain → Type 0
+nothing_else old new = Unit {0}
+
 -- which part pays, and which does not
 pub record Payers : Type 0 where
-  pub both : LowersBoth plain_stock (quota 3 2) (quota 2 1) answered
-  pub not_one : LowersBoth plain_stock (quota 3 2) (quota 3 1) answered → ⊥
-  pub the_first : SpendsInTurn plain_stock plain_stock (spare 1 5) (spare 0 5) answered
-  pub then_the_second : SpendsInTurn plain_stock plain_stock (spare 0 5) (spare 0 4) answered
-  pub not_second_first : SpendsInTurn plain_stock plain_stock (spare 1 5) (spare 1 4) answered → ⊥
-  pub two_words : (old new : Bor (List ℕ)) → old.now ≡ 7 ∷ 8 ∷ 9 ∷ [] → new.now ≡ 9 ∷ [] → TakesTwoWords (record { words = old }) (record { words = new }) answered
-  pub not_one_word : (old new : Bor (List ℕ)) → old.now ≡ 7 ∷ 8 ∷ 9 ∷ [] → new.now ≡ 8 ∷ 9 ∷ [] → TakesTwoWords (record { words = old }) (record { words = new }) answered → ⊥
+  pub both : LowersBoth plain_stock nothing_else (quota 3 2) (quota 2 1)
+  pub not_one : LowersBoth plain_stock nothing_else (quota 3 2) (quota 3 1) → ⊥
+  pub the_first : SpendsInTurn plain_stock nothing_else plain_stock nothing_else (spare 1 5) (spare 0 5)
+  pub then_the_second : SpendsInTurn plain_stock nothing_else plain_stock nothing_else (spare 0 5) (spare 0 4)
+  pub not_second_first : SpendsInTurn plain_stock nothing_else plain_stock nothing_else (spare 1 5) (spare 1 4) → ⊥
+  pub two_words : (old new : Bor (List ℕ)) → old.now ≡ 7 ∷ 8 ∷ 9 ∷ [] → new.now ≡ 9 ∷ [] → TakesTwoWords (record { words = old }) (record { words = new })
+  pub not_one_word : (old new : Bor (List ℕ)) → old.now ≡ 7 ∷ 8 ∷ 9 ∷ [] → new.now ≡ 8 ∷ 9 ∷ [] → TakesTwoWords (record { words = old }) (record { words = new }) → ⊥
 
 pub record Halves : Type 0 where
   pub of_5_by_7 : halves_of 5 7 ≡ record { word = 7; difference = 2 ^ 64 - 2 }
@@ -91,7 +94,7 @@ pub record Stocks : Type 0 where
 
 -- the second and the third line of a play from a stock of 2
 pub record Plays : Type 0 where
-  pub second : line_at nat_lt 2 1 (Q.First (Element 12) Above) ≡ record { question = Q.First (Element 12) Above; outcome = Answered (A.First Before); left = 0 }
-  pub third : line_at nat_lt 2 2 (Q.Lesser Below (Element 12)) ≡ record { question = Q.Lesser Below (Element 12); outcome = Refused out_of_stock; left = 0 }
+  pub second : line_at nat_lt 2 1 (Q.First (Element 12) Above) ≡ record { question = Q.First (Element 12) Above; outcome = Some (Ok (A.First Before)); left = 0 }
+  pub third : line_at nat_lt 2 2 (Q.Lesser Below (Element 12)) ≡ record { question = Q.Lesser Below (Element 12); outcome = Some (Err out_of_stock); left = 0 }
   pub printed_second : line_shown (λ x. Some (decimal x)) (line_at nat_lt 2 1 (Q.First (Element 12) Above)) ≡ Some (codes "first 12, above: 1, left 0")
   pub printed_third : line_shown (λ x. Some (decimal x)) (line_at nat_lt 2 2 (Q.Lesser Below (Element 12))) ≡ Some (codes "lesser below, 12: refused 16 run - -, left 0")

@@ -6,14 +6,12 @@ use faults::fault::{RunFault, SeatFault, SheetFault};
 pub fn carried_to_seat(read: Result<usize, SheetFault>) -> Result<usize, SeatFault>
     ensures { ToSeat read result }
 {
-    let count = read?;
-    Ok(count)
+    Ok(read?)
 }
 
 /// A reading's answer, carried by `?` through a seat's into a run's.
 pub fn carried_to_run(read: Result<usize, SheetFault>) -> Result<usize, RunFault>
     ensures { ToRun read result }
 {
-    let count = carried_to_seat(read)?;
-    Ok(count)
+    Ok(carried_to_seat(read)?)
 }

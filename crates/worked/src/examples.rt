@@ -2,18 +2,16 @@ ghost use Rattle.worked.specs.Examples.{Layouts, Places, Ranks, Percentiles, Lin
 ghost use Rattle.worked.specs.Refereeing.{Halves, Marks, Payers, Plays, Questions, Stocks, Verdicts};
 
 /// The definitions that contracts cite give what a reader works out by hand; the call itself does nothing.
-pub fn definitions_work() -> u8
+pub fn definitions_work()
     ensures layouts { Layouts }
     ensures places { Places }
     ensures ranks { Ranks }
     ensures percentiles { Percentiles }
     ensures lines { Lines }
-{
-    0
-}
+{}
 
 /// The same of the definitions of referees.
-pub fn refereeing_works() -> u8
+pub fn refereeing_works()
     ensures verdicts { Verdicts }
     ensures marks { Marks }
     ensures questions { Questions }
@@ -21,6 +19,4 @@ pub fn refereeing_works() -> u8
     ensures halves { Halves }
     ensures stocks { Stocks }
     ensures plays { Plays }
-{
-    0
-}
+{}

@@ -17,7 +17,7 @@ use strips::halves::Halves;
 use summaries::checking::check_sheet;
 
 #[test]
-fn places_of_link_levels(rt: HostRuntime) -> Result<(), Fail> {
+fn places_of_link_levels(rt: HostRuntime) {
     for (level, link, place) in [
         (i32::MIN, 0, 0),
         (-1, u32::MAX, 0x7fff_ffff_ffff_ffff),
@@ -26,15 +26,8 @@ fn places_of_link_levels(rt: HostRuntime) -> Result<(), Fail> {
     ] {
         let x = LinkLevel { level, link };
         assert_eq!(rt; x.place_number(), place);
-        match LinkLevel::at_place(place) {
-            Some(y) => {
-                assert_eq!(rt; y.level, level);
-                assert_eq!(rt; y.link, link);
-            }
-            None => return Err(Fail::new("no link level at the place")),
-        }
+        assert_eq!(rt; LinkLevel::at_place(place), Some(x));
     }
-    Ok(())
 }
 
 #[test]
@@ -112,18 +105,13 @@ fn a_lent_referee_is_spent_as_a_spare(rt: HostRuntime) {
         plain: 9,
     };
     let question = Question::First(Entry::Element(Delay { micros: 12 }), Entry::Above);
-    let mut lines = [
-        Line::to_ask(question),
-        Line::to_ask(question),
-        Line::to_ask(question),
-        Line::to_ask(question),
-    ];
+    let mut lines = [question; 4].map(Line::to_ask);
     let tally = play_on_loan(numbers, &[7, u64::MAX, 12], &mut lines);
     assert_eq!(rt; tally.answered, 3);
     assert_eq!(rt; tally.left, 0);
     assert_eq!(rt; lines[0].left, 2);
-    assert!(rt; lines[2].outcome.is_answered());
-    assert!(rt; !lines[3].outcome.is_answered());
+    assert!(rt; lines[2].is_answered());
+    assert!(rt; !lines[3].is_answered());
 }
 
 #[test]

@@ -1,20 +1,17 @@
-use Rattle.std.proofs.Common.{ℕ, ◌∙◌, arith}
+use Rattle.std.proofs.Common.{◌∙◌, arith}
 use Rattle.plays.proofs.Turns.{turn, answered_below, refused_from}
 use Rattle.plays.proofs.playing.play.Goals as goal
 use Rattle.plays.proofs.playing.play.Goals.{then-is_answered, else-is_answered}
 
-pub loop-i-preserved : goal.loop-i-preserved
-loop-i-preserved g c =
-    let before = g.T.Ordered.before in
-    let stock : ℕ = g.R.Referee.stock c.args.referee.now in
-    let rest : ℕ = g.R.Referee.stock c.loop-i.referee in
-    let inv = c.loop-i.invariant in
-    let line = c.ask_line-line.ensures.line in (
-      turn before stock rest c.loop-i.i c.args.lines.now c.loop-i.lines c.ask_line-line.result _ (omega arith) inv.0 inv.2 line,
-      elim c.if-is_answered.branch [
-        | then-is_answered w ↦ omega (arith, answered_below before stock rest c.loop-i.i _ c.ask_line-line.result inv.2 line w.if-is_answered.ensures, w.answered-is, inv.1)
-        | else-is_answered w ↦ omega (arith, refused_from before stock rest c.loop-i.i _ c.ask_line-line.result inv.2 line w.if-is_answered.ensures, w.answered-is, inv.1)
-      ],
-      omega (arith, inv.2, c.ask_line-line.ensures.cost),
-      (λ e. c.ask_line-line.ensures.empty_stays (omega (arith, inv.2)) ∙ inv.3 e),
-    )
+pub loop-line-preserved : goal.loop-line-preserved
+loop-line-preserved g c =
+    let inv = c.loop-line.invariant in
+    let line = c.ask_line.ensures.line in record {
+      played = turn _ _ _ _ _ _ _ _ (omega arith) inv.played inv.paid line;
+      answered = elim c.if-is_answered.branch [
+        | then-is_answered w ↦ omega (arith, answered_below _ _ _ _ _ _ inv.paid line w.if-is_answered.ensures, w.answered-is, inv.answered)
+        | else-is_answered w ↦ omega (arith, refused_from _ _ _ _ _ _ inv.paid line w.if-is_answered.ensures, w.answered-is, inv.answered)
+      ];
+      paid = omega (arith, inv.paid, c.ask_line.ensures.cost);
+      empty_stays = λ e. c.ask_line.ensures.empty_stays (omega (arith, inv.paid)) ∙ inv.empty_stays e;
+    }

@@ -2,10 +2,11 @@ use Rattle.std.proofs.Common.{◌≡◌, ◌-◌, min}
 use Rattle.plays.proofs.Turns.{PlayedTo}
 use Rattle.plays.proofs.playing.play.Given as goal
 
--- the lines before i are played, each at the cost of one question while the stock lasted
-abbrev pub invariant-loop-i : goal.invariant-loop-i
-invariant-loop-i g l =
-    PlayedTo g.T.Ordered.before (g.R.Referee.stock l.initial.referee) l.i l.initial.lines l.lines
-    × (l.answered ≡ min (g.R.Referee.stock l.initial.referee) l.i)
-    × (g.R.Referee.stock l.referee ≡ g.R.Referee.stock l.initial.referee - l.i)
-    × (g.R.Referee.stock l.initial.referee ≡ 0 → l.referee ≡ l.initial.referee)
+-- the lines before the index are played, each at the cost of one question while the stock lasted
+abbrev pub invariant-loop-line : goal.invariant-loop-line
+invariant-loop-line g l = record {
+  played : PlayedTo g.T.Ordered.before (g.R.Referee.stock l.initial.referee) l.line-index l.initial.lines l.lines;
+  answered : l.answered ≡ min (g.R.Referee.stock l.initial.referee) l.line-index;
+  paid : g.R.Referee.stock l.referee ≡ g.R.Referee.stock l.initial.referee - l.line-index;
+  empty_stays : g.R.Referee.stock l.initial.referee ≡ 0 → l.referee ≡ l.initial.referee;
+}

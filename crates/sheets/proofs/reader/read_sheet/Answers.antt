@@ -1,4 +1,6 @@
-use Rattle.sheets.proofs.Decisions.{Carried, carried, answer_told, reader_law}
+use Rattle.std.proofs.Common.{rules}
+use Rattle.sheets.specs.Readings.{Answers}
+use Rattle.sheets.proofs.Decisions.{Carried, carried, reader_law}
 use Rattle.sheets.proofs.reader.read_sheet.Given as given
 use Rattle.sheets.proofs.reader.read_sheet.Goals as goal
 
@@ -6,7 +8,7 @@ law_of : (g : given.Over) → Carried g.T.Ordered.before g.T.SheetElement.format
 law_of g =
     let o = g.met.T.Ordered in let s = g.met.T.SheetElement in carried o.trichotomy o.transitive s.width s.fixed s.distinct s.complete
 
-pub returns : goal.returns
-returns g c =
-    let a = answer_told g.T.Ordered.before _ _ _ _ c.args.seat c.read_list.result _ c.told_to.ensures c.read_list.ensures in
-    record { answers = a; law = reader_law g.T.Ordered.before _ _ _ _ (law_of g) c.args.seat _ a }
+pub returns-clause-law : goal.returns-clause-law
+returns-clause-law g c =
+    let answers : Answers g.T.Ordered.before g.T.SheetElement.format c.args.bytes.now c.args.list.now c.read_list.new.list c.args.seat c.told_to.result = search rules in
+    reader_law g.T.Ordered.before _ _ _ _ (law_of g) c.args.seat _ answers

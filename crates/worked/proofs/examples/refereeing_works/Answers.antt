@@ -18,11 +18,11 @@ returns c = record {
     not_untrue = λ e. omega (arith, ap verdict_number e.0);
   };
   payers = record {
-    both = (refl, refl);
-    not_one = λ e. omega (arith, e.0);
-    the_first = ((λ h. (refl, refl)), λ h. absurd (omega (arith, h)));
-    then_the_second = ((λ h. absurd (omega (arith, h))), λ h. (refl, refl));
-    not_second_first = λ e. omega (arith, (e.0 (lit< tt)).1);
+    both = record { own = refl; below = refl; spent_below = tt };
+    not_one = λ e. omega (arith, e.own);
+    the_first = record { first = λ h. (refl, refl, tt); then_second = λ h. absurd (omega (arith, h)) };
+    then_the_second = record { first = λ h. absurd (omega (arith, h)); then_second = λ h. (refl, refl, tt) };
+    not_second_first = λ e. omega (arith, (e.first (lit< tt)).1);
     two_words = λ old new p q. q ∙ sym (ap (drop 2) p);
     not_one_word = λ old new p q e. omega (arith, ap length (sym q ∙ e ∙ ap (drop 2) p));
   };
