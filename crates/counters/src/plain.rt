@@ -28,10 +28,7 @@ impl Plain {
     fn spend(&mut self) -> Result<(), RunFault>
         ensures { OneQuestion plain_stock self.old self.new tt result }
     {
-        if self.stock == 0 {
-            return Err(out_of_stock());
-        }
-        self.stock -= 1;
+        self.stock = self.stock.checked_sub(1).ok_or_else(out_of_stock)?;
         Ok(())
     }
 }
@@ -41,6 +38,7 @@ impl<T: Ordered> Referee<T> for Plain {
 
     ghost spends = { λ old new. Unit {0} };
 
+    // Two questions, with answers of two types. Rattle cannot yet give them their trait's clauses, which name the order of `T`.
     fn first(&mut self, a: Shown<T>, b: Shown<T>) -> Result<PairVerdict, RunFault>
         ensures answers { AsksFirst T.Ordered.before plain_stock self.old self.new a b result }
         ensures spends { IfOk result (λ answer. Unit {0}) }

@@ -32,7 +32,7 @@ impl<T: Ordered> Entry<T> {
     pub fn lesser(self, other: Entry<T>) -> Entry<T>
         ensures { result ≡ lesser_entry T.Ordered.before self other }
     {
-        if self.is_before(other) { self } else { other }
+        other.min(self)
     }
 }
 

@@ -8,6 +8,7 @@ pub trait Ordered: Copy + Ord {
 
     ghost sample: { Self };
 
+    /// Whether this element is before the other.
     final fn is_before(self, other: Self) -> bool
         ensures { result ≡ before self other }
     {

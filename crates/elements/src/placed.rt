@@ -8,14 +8,18 @@ use crate::ordered::Ordered;
 pub trait Placed: Ordered {
     ghost place: { Self → ℕ };
 
+    /// The lowest of the type's places.
     const LOWEST: u64;
 
     ghost LOWEST: { ℕ };
 
+    /// The highest of the type's places.
     const HIGHEST: u64;
 
     ghost HIGHEST: { ℕ };
 
+    // Not `From`, and `at_place` not `TryFrom`: their contracts could not name the type's places.
+    /// This element's place.
     fn place_number(self) -> u64
         ensures { result ≡ place self };
 

@@ -2,6 +2,8 @@ ghost use Rattle.faults.specs.Notices.{SeatKeepsSheet, RunKeepsSeat};
 
 use crate::fault::{RunFault, SeatFault, SheetFault};
 
+// One impl for each step: each converts a type of its own.
+
 impl From<SheetFault> for SeatFault {
     ghost from_gives = { SeatKeepsSheet };
 

@@ -16,12 +16,16 @@ pub enum Layer {
     Run,
 }
 
+// A refusal and its seat are two fields in each of the three: a struct of the two would be `SheetFault` by another name.
+
 /// A sheet was refused.
 #[derive(Clone, Copy, Debug, PartialEq, Eq)]
 pub struct SheetFault {
     pub refusal: Refusal,
     pub seat: Option<Seat>,
 }
+
+// An enum for each layer: one generic enum would need a parameter that names the layer, and is no plainer.
 
 /// A seat's own call was refused, or the sheet under it.
 #[derive(Clone, Copy, Debug, PartialEq, Eq)]

@@ -50,13 +50,19 @@ impl fmt::Display for Notice {
     ghost output = { λ x. Some (notice_line x) };
 
     fn fmt<W: fmt::Write>(&self, f: &mut fmt::Formatter<W>) -> fmt::Result {
-        let number = self.refusal.number();
-        let layer = self.layer;
-        let seat = OrDash(self.seat);
-        let spot = OrDash(self.refusal.spot());
+        let Notice {
+            refusal,
+            layer,
+            seat,
+        } = self;
+        let number = refusal.number();
+        let seat = OrDash(*seat);
+        let spot = OrDash(refusal.spot());
         write!(f, "refused {number} {layer} {seat} {spot}")
     }
 }
+
+// One impl for each fault: Rust lets none stand for every type of a trait.
 
 impl fmt::Display for SheetFault {
     ghost output = { λ x. Some (notice_line (sheet_notice x)) };

@@ -41,7 +41,7 @@ pub enum Refusal {
 }
 
 impl Refusal {
-    /// The number by which a refusal is known outside.
+    /// The number by which a refusal is known outside. A `From` into `u8` would not say what the number is.
     pub fn number(self) -> u8
         ensures { result ≡ number_of self }
     {

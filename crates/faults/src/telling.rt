@@ -33,6 +33,8 @@ impl Fault for SheetFault {
     }
 }
 
+// The next two differ in the fault below and in the layer.
+
 impl Fault for SeatFault {
     ghost tells = { seat_notice };
 

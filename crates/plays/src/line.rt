@@ -9,6 +9,7 @@ use questions::question::{Answer, Question};
 pub struct Line<T> {
     pub question: Question<T>,
     pub outcome: Option<Result<Answer<T>, RunFault>>,
+    // Beside the outcome and not in it, since an unasked line prints its 0 as well.
     pub left: u32,
 }
 

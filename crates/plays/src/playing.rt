@@ -25,7 +25,7 @@ pub fn play<T: Ordered, R: Referee<T>>(referee: &mut R, lines: &mut [Line<T>]) -
     ensures empty_stays { R.Referee.stock referee.old ≡ 0 → referee.new ≡ referee.old }
     ensures played { Played T.Ordered.before (R.Referee.stock referee.old) (R.Referee.stock referee.new) lines.old lines.new result }
 {
-    // Counted by hand, since the check does not find what `filter` and `count` come to after the loop.
+    // Tried `filter` and `count` after the loop: the proof did not close.
     let mut answered = 0;
     for line in lines.iter_mut() {
         *line = ask_line(referee, line.question);

@@ -16,6 +16,7 @@ pub fn ask<T: Ordered, R: Referee<T>>(
     ensures answers { OneQuestion R.Referee.stock referee.old referee.new (truth_of T.Ordered.before question) result }
     ensures spends { IfOk result (λ answer. R.Referee.spends referee.old referee.new) }
 {
+    // Each question has an answer of its own type, so one call cannot serve for the three.
     match question {
         Question::First(a, b) => Ok(Answer::First(ask_first(referee, a, b)?)),
         Question::Lesser(a, b) => Ok(Answer::Lesser(ask_lesser(referee, a, b)?)),

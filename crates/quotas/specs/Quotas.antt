@@ -1,20 +1,10 @@
 -- The stock of a quota, and what it pays for an answered question.
-use Rattle.std.specs.Prelude.{◌≡◌, ℕ, ◌+◌, ◌<◌, min, Ok, Err, Result}
-use Rattle.faults.specs.declared.fault.RunFault.{RunFault}
-use Rattle.referees.specs.Questions.{out_of_stock}
+use Rattle.std.specs.Prelude.{◌≡◌, ℕ, ◌+◌, min}
 use Rattle.quotas.specs.declared.quota.Quota.{Quota}
 
 -- the smaller of its own number and the stock below
 abbrev pub quota_stock : {R : Type 0} → (R → ℕ) → Quota R → ℕ
 quota_stock below_stock referee = min referee.own (below_stock referee.below)
-
--- a quota lets a question through while its own number lasts
-abbrev pub Admits : {R X : Type 0} → Quota R → Result X RunFault → Type 0
-Admits referee (Ok done) = 0 < referee.own
-Admits referee (Err fault) = (fault ≡ out_of_stock) × (referee.own ≡ 0)
-
-abbrev pub Lowered : {R : Type 0} → Quota R → Quota R → Type 0
-Lowered old new = (old.own ≡ new.own + 1) × (new.below ≡ old.below)
 
 -- an answered question lowers a quota's own number and the stock below it, each by one, and takes below what it takes there
 pub record LowersBoth {R : Type 0} (below_stock : R → ℕ) (below_spends : R → R → Type 0) (old new : Quota R) : Type 0 where

@@ -1,6 +1,6 @@
-ghost use Rattle.std.specs.Prelude.{◌≡◌, ◌<◌, IfOk};
+ghost use Rattle.std.specs.Prelude.{◌≡◌, IfOk};
 ghost use Rattle.referees.specs.Questions.{OneQuestion, AsksFirst, AsksLesser};
-ghost use Rattle.quotas.specs.Quotas.{Admits, Lowered, LowersBoth, quota_stock};
+ghost use Rattle.quotas.specs.Quotas.{LowersBoth, quota_stock};
 
 use elements::entry::Entry;
 use elements::ordered::Ordered;
@@ -26,24 +26,6 @@ impl<R> Quota<R> {
         Quota { own, below }
     }
 
-    /// Refuses where nothing of its own number is left.
-    fn admit(&self) -> Result<(), RunFault>
-        ensures { Admits self.now result }
-    {
-        if self.own == 0 {
-            return Err(out_of_stock());
-        }
-        Ok(())
-    }
-
-    /// Counts an answered question.
-    fn lower(&mut self)
-        requires has_left { 0 < self.old.own }
-        ensures { Lowered self.old self.new }
-    {
-        self.own -= 1;
-    }
-
     /// Lets a question through to the referee below, if its own number allows.
     fn let_through<T: Ordered, Q: Inquiry<T>>(&mut self, question: Q) -> Result<Q::Answer, RunFault>
     where
@@ -51,9 +33,9 @@ impl<R> Quota<R> {
         ensures answers { OneQuestion (quota_stock R.Referee.stock) self.old self.new (Q.truth question) result }
         ensures spends { IfOk result (λ answer. LowersBoth R.Referee.stock R.Referee.spends self.old self.new) }
     {
-        self.admit()?;
+        let left = self.own.checked_sub(1).ok_or_else(out_of_stock)?;
         let answer = question.put(&mut self.below)?;
-        self.lower();
+        self.own = left;
         Ok(answer)
     }
 }
@@ -63,6 +45,7 @@ impl<T: Ordered, R: Referee<T>> Referee<T> for Quota<R> {
 
     ghost spends = { LowersBoth R.Referee.stock R.Referee.spends };
 
+    // Two questions, with answers of two types. Rattle cannot yet give them their trait's clauses, which name the order of `T`.
     fn first(&mut self, a: Shown<T>, b: Shown<T>) -> Result<PairVerdict, RunFault>
         ensures answers { AsksFirst T.Ordered.before (quota_stock R.Referee.stock) self.old self.new a b result }
         ensures spends { IfOk result (λ answer. LowersBoth R.Referee.stock R.Referee.spends self.old self.new) }

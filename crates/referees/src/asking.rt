@@ -10,6 +10,8 @@ use elements::entry::Entry;
 use elements::ordered::Ordered;
 use faults::fault::RunFault;
 
+// Each of the two is one call, by the name of its question.
+
 /// Asks a referee whether A's entry is before B's, marks as elements.
 pub fn ask_first<T: Ordered, R: Referee<T>>(
     referee: &mut R,

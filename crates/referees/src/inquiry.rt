@@ -25,6 +25,8 @@ pub trait Inquiry<T: Ordered>: Copy {
         ensures spends { IfOk result (λ answer. R.Referee.spends referee.old referee.new) };
 }
 
+// `First` and `Lesser` hold the same, and are two types because they are two questions with answers of their own.
+
 /// Whether A's entry is before B's.
 #[derive(Clone, Copy, Debug, PartialEq, Eq)]
 pub struct First<T> {

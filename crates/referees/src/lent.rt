@@ -10,12 +10,13 @@ use elements::entry::Entry;
 use elements::ordered::Ordered;
 use faults::fault::RunFault;
 
-/// A lent referee is a referee, and every question to it is one to its lender's.
+/// A lent referee is a referee: every question to it goes to the referee behind it, each by the method of its name.
 impl<'a, T: Ordered, R: Referee<T>> Referee<T> for &'a mut R {
     ghost stock = { lent_stock R.Referee.stock };
 
     ghost spends = { lent_spends R.Referee.spends };
 
+    // Two questions, with answers of two types. Rattle cannot yet give them their trait's clauses, which name the order of `T`.
     fn first(&mut self, a: Shown<T>, b: Shown<T>) -> Result<PairVerdict, RunFault>
         ensures answers { AsksFirst T.Ordered.before (lent_stock R.Referee.stock) self.old self.new a b result }
         ensures spends { IfOk result (λ answer. lent_spends R.Referee.spends self.old self.new) }

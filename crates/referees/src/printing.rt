@@ -9,8 +9,7 @@ impl fmt::Display for PairVerdict {
     ghost output = { λ x. Some (pair_verdict_word x) };
 
     fn fmt<W: fmt::Write>(&self, f: &mut fmt::Formatter<W>) -> fmt::Result {
-        let number = self.number();
-        write!(f, "{number}")
+        self.number().fmt(f)
     }
 }
 

@@ -14,7 +14,8 @@ use faults::fault::RunFault;
 pub trait Referee<T: Ordered> {
     ghost stock: { Self → ℕ };
 
-    /// What an answered question changes, besides the stock, from one state of the referee to the next.
+    /// What an answered question costs, from one state of the referee to the next: which part pays, which the stock of a
+    /// whole does not tell.
     ghost spends: { Self → Self → Type 0 };
 
     /// Whether A's entry is before B's.

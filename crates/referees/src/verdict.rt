@@ -8,8 +8,8 @@ use elements::ordered::Ordered;
 /// The answer to *first*: whether A's entry is before B's.
 #[derive(Clone, Copy, Debug, PartialEq, Eq)]
 pub enum PairVerdict {
-    Before,
-    NotBefore,
+    NotBefore = 0,
+    Before = 1,
 }
 
 /// The answer to *weigh*: where the element of rank k is, seen from the place asked about.
@@ -41,13 +41,11 @@ impl PairVerdict {
         PairVerdict::from(a.is_before(b))
     }
 
+    /// The value of the answer; a `From` into `u8` would not say what the number is.
     pub fn number(self) -> u8
         ensures { result ≡ verdict_number self }
     {
-        match self {
-            PairVerdict::Before => 1,
-            PairVerdict::NotBefore => 0,
-        }
+        self as u8
     }
 }
 

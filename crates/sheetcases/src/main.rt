@@ -144,7 +144,7 @@ fn tell<T: SheetElement + Display>(
 
 /// A sheet of so many delays, all of them 0.
 fn zeros(heap: Global, count: u32) -> Result<Vec<u8>, AllocError> {
-    let body = count.saturating_mul(4);
+    let body = count.saturating_mul(Delay::BYTES_EACH as u32);
     let mut bytes = vec![in heap; 1]?;
     bytes.extend_from_slice(&body.saturating_add(1).to_be_bytes())?;
     bytes.push(Kind::Delays.byte())?;

@@ -5,12 +5,13 @@ use elements::delay::Delay;
 use elements::link_level::LinkLevel;
 use elements::ordered::Ordered;
 use sheets::reader::MOST_ELEMENTS;
+use sheets::sheet_element::SheetElement;
 use std::io::Read;
 use summaries::checking::check_sheet;
 
 /// One byte more than the longest sheet has, so that a longer one is seen to be too long: a header of 6 bytes, and
-/// 65,536 elements of 8.
-const MOST_BYTES: u64 = 6 + MOST_ELEMENTS as u64 * 8 + 1;
+/// 65,536 elements.
+const MOST_BYTES: u64 = 6 + (MOST_ELEMENTS * LinkLevel::BYTES_EACH) as u64 + 1;
 
 fn main(rt: HostRuntime) -> anyhow::Result<()> {
     let heap = rt.alloc();

@@ -36,6 +36,10 @@ abbrev pub Decoded : {E : Type 0} → Format E → List ℕ → Option E → Typ
 Decoded f bytes (Some x) = f.coded x ≡ bytes
 Decoded {E} f bytes None = (x : E) → f.coded x ≢ bytes
 
+-- how many elements stand in so many bytes
+abbrev pub elements_in : {E : Type 0} → Format E → List ℕ → ℕ
+elements_in f bytes = length bytes / f.width
+
 -- the bytes of the elements of a list, one after another
 abbrev pub packed : {E : Type 0} → Format E → List E → List ℕ
 packed f [] = []

@@ -1,13 +1,13 @@
 ghost use Rattle.std.specs.Prelude.{◌≡◌, ◌+◌, ◌/◌, ◌<◌, ◌≤◌, List, length, IsTrue, ◌↔◌};
 ghost use Rattle.std.specs.Slice.Iter.{chunks_exact_rest, chunks_exact_size};
-ghost use Rattle.sheets.specs.Layouts.{packed};
+ghost use Rattle.sheets.specs.Layouts.{elements_in, packed};
 ghost use Rattle.sheets.specs.Readings.{FallAt, Filled};
 
 use crate::body::Body;
 use crate::sheet_element::SheetElement;
 use std::slice::ChunksExact;
 
-/// The element that a part of a body holds; what holds none stands for some element.
+/// The element that a part of a body holds; of a part that holds none, the type's sample.
 fn element<T: SheetElement>(part: &[u8]) -> T
     ensures { (x : T) → T.SheetElement.format.coded x ≡ part.now → result ≡ x }
 {
@@ -32,9 +32,9 @@ fn second_of(pair: usize) -> u32
 impl<'a, T: SheetElement> Body<'a, T> {
     /// How many elements there are.
     pub(crate) fn len(&self) -> usize
-        ensures { result ≡ length self.now.bytes.now / T.SheetElement.format.width }
+        ensures { result ≡ elements_in T.SheetElement.format self.now.bytes.now }
     {
-        self.bytes.len() / T::bytes_each()
+        self.bytes.len() / T::BYTES_EACH
     }
 
     /// The parts of the bytes that hold one element each.
@@ -42,7 +42,7 @@ impl<'a, T: SheetElement> Body<'a, T> {
         ensures rest { chunks_exact_rest result ≡ self.now.bytes.now }
         ensures size { chunks_exact_size result ≡ T.SheetElement.format.width }
     {
-        self.bytes.chunks_exact(T::bytes_each())
+        self.bytes.chunks_exact(T::BYTES_EACH)
     }
 
     /// Where the list falls first: the number, counted from 1, of the element that is before its predecessor.
@@ -57,17 +57,17 @@ impl<'a, T: SheetElement> Body<'a, T> {
 
     /// Whether the slice has a place for each element.
     pub(crate) fn fits(&self, list: &[T]) -> bool
-        ensures { IsTrue result ↔ (length self.now.bytes.now / T.SheetElement.format.width ≤ length list.now) }
+        ensures { IsTrue result ↔ (elements_in T.SheetElement.format self.now.bytes.now ≤ length list.now) }
     {
         self.len() <= list.len()
     }
 
     /// Writes the list into the slice, from its start.
     pub(crate) fn fill(&self, list: &mut [T])
-        requires { length self.now.bytes.now / T.SheetElement.format.width ≤ length list.old }
+        requires { elements_in T.SheetElement.format self.now.bytes.now ≤ length list.old }
         ensures { (xs : List T) → packed T.SheetElement.format xs ≡ self.now.bytes.now → Filled xs list.old list.new }
     {
-        // After a zip with `iter_mut` no contract would tell what stands in the slice.
+        // Tried `list.iter_mut().zip(..)`: nothing is then known of what stands in the slice.
         for (i, part) in self.parts().enumerate() {
             list[i] = element(part);
         }

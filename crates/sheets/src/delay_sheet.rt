@@ -1,3 +1,4 @@
+ghost use Rattle.std.specs.Prelude.{refl};
 ghost use Rattle.sheets.specs.Formats.{delay_format};
 ghost use Rattle.elements.specs.Alike.{delay_alike};
 ghost use Rattle.sheets.specs.Digits.{digits_apart, first_four, first_four_fits, digits_of_list};
@@ -10,6 +11,12 @@ use elements::delay::Delay;
 impl SheetElement for Delay {
     ghost format = { delay_format };
 
+    const BYTES_EACH: usize = 4;
+
+    ghost BYTES_EACH = { 4 };
+
+    ghost each = { refl };
+
     ghost width = { Prim.search rules };
 
     ghost fixed = { Prim.search rules };
@@ -20,10 +27,6 @@ impl SheetElement for Delay {
 
     fn kind() -> Kind {
         Kind::Delays
-    }
-
-    fn bytes_each() -> usize {
-        4
     }
 
     fn decode(bytes: &[u8]) -> Option<Delay> {

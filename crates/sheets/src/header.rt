@@ -22,7 +22,7 @@ pub(crate) fn check_header<T: SheetElement>(bytes: &[u8]) -> Result<Body<'_, T>,
     if *kind != T::kind().byte() {
         return Err(Refusal::KindNotWanted);
     }
-    if body.len() % T::bytes_each() != 0 || MOST_ELEMENTS * T::bytes_each() < body.len() {
+    if body.len() % T::BYTES_EACH != 0 || MOST_ELEMENTS * T::BYTES_EACH < body.len() {
         return Err(Refusal::BodyNotAList);
     }
     Ok(Body {

@@ -13,7 +13,7 @@ pub enum Kind {
 pub struct UnknownKind(pub u8);
 
 impl Kind {
-    /// The byte that names this kind on a sheet.
+    /// The byte that names this kind on a sheet; a `From` into `u8` would not say so.
     pub fn byte(self) -> u8
         ensures { result ≡ byte_of self }
     {

@@ -1,4 +1,4 @@
-ghost use Rattle.std.specs.Prelude.{◌≡◌};
+ghost use Rattle.std.specs.Prelude.{◌≡◌, refl};
 ghost use Rattle.std.specs.Int.{w32};
 ghost use Rattle.std.proofs.Common.{to_z, rules};
 ghost use Rattle.sheets.specs.Digits.{first_four};
@@ -23,6 +23,12 @@ fn level_of(level: [u8; 4], link: [u8; 4]) -> LinkLevel
 impl SheetElement for LinkLevel {
     ghost format = { level_format };
 
+    const BYTES_EACH: usize = 8;
+
+    ghost BYTES_EACH = { 8 };
+
+    ghost each = { refl };
+
     ghost width = { Prim.search rules };
 
     ghost fixed = { Prim.search rules };
@@ -33,10 +39,6 @@ impl SheetElement for LinkLevel {
 
     fn kind() -> Kind {
         Kind::LinkLevels
-    }
-
-    fn bytes_each() -> usize {
-        8
     }
 
     fn decode(bytes: &[u8]) -> Option<LinkLevel> {

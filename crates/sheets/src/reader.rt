@@ -31,7 +31,8 @@ fn told_to(seat: Option<Seat>, read: Result<usize, Refusal>) -> Result<usize, Sh
     read.map_err(|refusal| SheetFault { refusal, seat })
 }
 
-/// Reads a sheet for a seat, or for none: fills the slice from its start and answers how many elements it read.
+/// Reads a sheet for a seat, or for none: fills the slice from its start and answers how many elements it read. The caller
+/// lends the slice, since nothing here allocates, and sees all of it afterwards: so a number is answered and no part of it.
 pub fn read_sheet<T: SheetElement>(
     bytes: &[u8],
     seat: Option<Seat>,

@@ -1,4 +1,4 @@
-ghost use Rattle.std.specs.Prelude.{◌≡◌, ◌<◌, ◌≤◌};
+ghost use Rattle.std.specs.Prelude.{◌≡◌, ℕ, ◌<◌, ◌≤◌};
 ghost use Rattle.sheets.specs.Kinds.{byte_of};
 ghost use Rattle.sheets.specs.Layouts.{Format, Decoded, FixedWidth, Distinct, Complete};
 
@@ -14,12 +14,16 @@ pub trait SheetElement: Ordered {
         ensures { byte_of result ≡ format.kind };
 
     /// How many bytes an element has.
-    fn bytes_each() -> usize
-        ensures { result ≡ format.width };
+    const BYTES_EACH: usize;
 
+    ghost BYTES_EACH: { ℕ };
+
+    // Not a `TryFrom`, whose contract could not name the type's format.
     /// The element with these bytes, or none where no element has them.
     fn decode(bytes: &[u8]) -> Option<Self>
         ensures { Decoded format bytes.now result };
+
+    ghost each: { BYTES_EACH ≡ format.width };
 
     ghost width: { (1 ≤ format.width) × (format.width ≤ 8) };
 

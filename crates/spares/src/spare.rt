@@ -46,6 +46,7 @@ impl<T: Ordered, R: Referee<T>, S: Referee<T>> Referee<T> for Spare<R, S> {
 
     ghost spends = { SpendsInTurn R.Referee.stock R.Referee.spends S.Referee.stock S.Referee.spends };
 
+    // Two questions, with answers of two types. Rattle cannot yet give them their trait's clauses, which name the order of `T`.
     fn first(&mut self, a: Shown<T>, b: Shown<T>) -> Result<PairVerdict, RunFault>
         ensures answers { AsksFirst T.Ordered.before (spare_stock R.Referee.stock S.Referee.stock) self.old self.new a b result }
         ensures spends { IfOk result (λ answer. SpendsInTurn R.Referee.stock R.Referee.spends S.Referee.stock S.Referee.spends self.old self.new) }

@@ -77,6 +77,7 @@ impl<'a, T: Placed> Referee<T> for Strip<'a> {
 
     ghost spends = { TakesTwoWords };
 
+    // Two questions, with answers of two types. Rattle cannot yet give them their trait's clauses, which name the order of `T`.
     fn first(&mut self, a: Shown<T>, b: Shown<T>) -> Result<PairVerdict, RunFault>
         ensures answers { AsksFirst T.Ordered.before strip_stock self.old self.new a b result }
         ensures spends { IfOk result (λ answer. TakesTwoWords self.old self.new) }
