@@ -1,6 +1,6 @@
 ghost use Rattle.std.specs.Prelude.{◌≡◌, IfOk};
 ghost use Rattle.referees.specs.Questions.{OneQuestion, AsksFirst, AsksLesser};
-ghost use Rattle.counters.specs.Stocks.{plain_stock};
+ghost use Rattle.counters.specs.Stocks.{FallsByOne, plain_stock};
 
 use elements::entry::Entry;
 use elements::ordered::Ordered;
@@ -36,12 +36,12 @@ impl Plain {
 impl<T: Ordered> Referee<T> for Plain {
     ghost stock = { plain_stock };
 
-    ghost spends = { λ old new. Unit {0} };
+    ghost spends = { FallsByOne };
 
     // Two questions, with answers of two types. Rattle cannot yet give them their trait's clauses, which name the order of `T`.
     fn first(&mut self, a: Shown<T>, b: Shown<T>) -> Result<PairVerdict, RunFault>
         ensures answers { AsksFirst T.Ordered.before plain_stock self.old self.new a b result }
-        ensures spends { IfOk result (λ answer. Unit {0}) }
+        ensures spends { IfOk result (λ answer. FallsByOne self.old self.new) }
     {
         self.spend()?;
         Ok(PairVerdict::on(a.into(), b.into()))
@@ -49,7 +49,7 @@ impl<T: Ordered> Referee<T> for Plain {
 
     fn lesser(&mut self, a: Shown<T>, b: Shown<T>) -> Result<Entry<T>, RunFault>
         ensures answers { AsksLesser T.Ordered.before plain_stock self.old self.new a b result }
-        ensures spends { IfOk result (λ answer. Unit {0}) }
+        ensures spends { IfOk result (λ answer. FallsByOne self.old self.new) }
     {
         self.spend()?;
         Ok(Entry::from(a).lesser(Entry::from(b)))

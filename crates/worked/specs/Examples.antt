@@ -1,5 +1,5 @@
 -- Worked examples of the definitions.
-use Rattle.std.specs.Prelude.{◌≡◌, ℕ, ◌-◌, ◌^◌, List, [], ◌∷◌, pos, negsuc, Some, None, Ok, codes, nat_lt}
+use Rattle.std.specs.Prelude.{◌≡◌, ℕ, ◌-◌, ◌^◌, List, [], ◌∷◌, pos, negsuc, Some, None, Ok, Err, codes, nat_lt}
 use Rattle.std.proofs.Common.{lit<}
 use Rattle.faults.specs.Notices.{run_notice}
 use Rattle.faults.specs.Words.{notice_line}
@@ -13,6 +13,10 @@ use Rattle.elements.specs.declared.link_level.LinkLevel.{LinkLevel}
 use Rattle.ranks.specs.Ranks.{joint, in_order, Ranked, Counted}
 use Rattle.ranks.specs.Percentiles.{median_rank, percentile_rank, out_of_bounds}
 use Rattle.sheets.specs.Layouts.{layout}
+use Rattle.sheets.specs.Kinds.{NamesKind}
+use Rattle.sheets.specs.declared.kind.Kind.{Kind}
+use Rattle.sheets.specs.declared.kind.Kind.TheVariants as kind
+use Rattle.sheets.specs.declared.kind.UnknownKind.{UnknownKind}
 use Rattle.sheets.specs.Formats.{delay_format, level_format}
 use Rattle.summaries.specs.Words.{report_shown}
 use Rattle.summaries.specs.declared.summary.AtRank.{AtRank}
@@ -39,6 +43,13 @@ pub record Layouts : Type 0 where
   pub empty : layout delay_format [] ≡ 1 ∷ 0 ∷ 0 ∷ 0 ∷ 1 ∷ 1 ∷ []
   pub two_delays : layout delay_format (forty ∷ three_hundred ∷ []) ≡ 1 ∷ 0 ∷ 0 ∷ 0 ∷ 9 ∷ 1 ∷ 0 ∷ 0 ∷ 0 ∷ 40 ∷ 0 ∷ 0 ∷ 1 ∷ 44 ∷ []
   pub one_level : layout level_format (on_link_7 ∷ []) ≡ 1 ∷ 0 ∷ 0 ∷ 0 ∷ 9 ∷ 2 ∷ 0xff ∷ 0xff ∷ 0xef ∷ 0x66 ∷ 0 ∷ 0 ∷ 0 ∷ 7 ∷ []
+
+-- the byte 2 names link levels and nothing else, and is not unknown; 3 names no kind
+pub record Kinds : Type 0 where
+  pub of_2 : NamesKind 2 (Ok kind.LinkLevels)
+  pub not_of_2 : NamesKind 2 (Ok kind.Delays) → ⊥
+  pub known_2 : (u : UnknownKind) → NamesKind 2 (Err u) → ⊥
+  pub none_of_3 : (k : Kind) → NamesKind 3 (Ok k) → ⊥
 
 pub record Places : Type 0 where
   pub first : level_place lowest_level ≡ 0

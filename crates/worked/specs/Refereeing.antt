@@ -4,18 +4,18 @@ use Rattle.std.specs.Borrow.{Bor}
 use Rattle.elements.specs.Entries.{lesser_entry}
 use Rattle.elements.specs.declared.entry.Entry.TheVariants.{Below, Element, Above}
 use Rattle.faults.specs.declared.fault.RunFault.{RunFault}
-use Rattle.counters.specs.Stocks.{plain_stock}
+use Rattle.counters.specs.Stocks.{FallsByOne, plain_stock}
 use Rattle.counters.specs.declared.plain.Plain.{Plain}
 use Rattle.quotas.specs.Quotas.{LowersBoth}
 use Rattle.quotas.specs.declared.quota.Quota.{Quota}
 use Rattle.spares.specs.Spares.{SpendsInTurn}
 use Rattle.spares.specs.declared.spare.Spare.{Spare}
-use Rattle.strips.specs.Strips.{TakesTwoWords}
+use Rattle.strips.specs.Strips.{TakesTwoWords, strip_stock}
 use Rattle.referees.specs.Questions.{OneQuestion, told_stock, out_of_stock}
 use Rattle.referees.specs.Shown.{entry_of, shown_of}
 use Rattle.referees.specs.declared.sort.Sort.TheVariants.{Below as BelowSort, Element as ElementSort, Above as AboveSort}
 use Rattle.referees.specs.declared.verdict.PairVerdict.{PairVerdict}
-use Rattle.referees.specs.Verdicts.{first_of, weight_of}
+use Rattle.referees.specs.Verdicts.{first_of, weight_of, weight_of_sums}
 use Rattle.referees.specs.declared.verdict.PairVerdict.TheVariants.{Before, NotBefore}
 use Rattle.referees.specs.declared.verdict.GroupVerdict.TheVariants.{Lower, Higher, Done}
 use Rattle.strips.specs.Halves.{halves_of, joined}
@@ -33,6 +33,8 @@ pub record Verdicts : Type 0 where
   pub at_k : weight_of 4 5 4 9 ≡ Lower
   pub past_n : weight_of 3 6 4 9 ≡ Higher
   pub neither : weight_of 3 5 4 9 ≡ Done
+  pub sums_at_k : weight_of_sums (record { below = 4; above = 5; k = 4; n = 9 }) ≡ Lower
+  pub sums_past_n : weight_of_sums (record { below = 3; above = 6; k = 4; n = 9 }) ≡ Higher
   pub no_wrap : weight_of 0 (2 ^ 32 - 1) 1 (2 ^ 32 - 1) ≡ Higher
   pub lesser : lesser_entry nat_lt (Element 12) Above ≡ Element 12
   pub lesser_of_equal : lesser_entry nat_lt Above Above ≡ Above
@@ -68,19 +70,18 @@ pub record Questions : Type 0 where
   pub not_late : OneQuestion plain_stock (plain 0) (plain 0) Before answered → ⊥
   pub not_untrue : OneQuestion plain_stock (plain 2) (plain 1) NotBefore answered → ⊥
 
--- a plain referee changes nothing besides its stock
-abbrev nothing_else : Plain → Plain → Type 0
-nothing_else old new = Unit {0}
-
 -- which part pays, and which does not
 pub record Payers : Type 0 where
-  pub both : LowersBoth plain_stock nothing_else (quota 3 2) (quota 2 1)
-  pub not_one : LowersBoth plain_stock nothing_else (quota 3 2) (quota 3 1) → ⊥
-  pub the_first : SpendsInTurn plain_stock nothing_else plain_stock nothing_else (spare 1 5) (spare 0 5)
-  pub then_the_second : SpendsInTurn plain_stock nothing_else plain_stock nothing_else (spare 0 5) (spare 0 4)
-  pub not_second_first : SpendsInTurn plain_stock nothing_else plain_stock nothing_else (spare 1 5) (spare 1 4) → ⊥
+  pub both : LowersBoth plain_stock FallsByOne (quota 3 2) (quota 2 1)
+  pub not_one : LowersBoth plain_stock FallsByOne (quota 3 2) (quota 3 1) → ⊥
+  pub the_first : SpendsInTurn plain_stock FallsByOne plain_stock FallsByOne (spare 1 5) (spare 0 5)
+  pub then_the_second : SpendsInTurn plain_stock FallsByOne plain_stock FallsByOne (spare 0 5) (spare 0 4)
+  pub not_second_first : SpendsInTurn plain_stock FallsByOne plain_stock FallsByOne (spare 1 5) (spare 1 4) → ⊥
   pub two_words : (old new : Bor (List ℕ)) → old.now ≡ 7 ∷ 8 ∷ 9 ∷ [] → new.now ≡ 9 ∷ [] → TakesTwoWords (record { words = old }) (record { words = new })
   pub not_one_word : (old new : Bor (List ℕ)) → old.now ≡ 7 ∷ 8 ∷ 9 ∷ [] → new.now ≡ 8 ∷ 9 ∷ [] → TakesTwoWords (record { words = old }) (record { words = new }) → ⊥
+  -- a quota over a strip takes the strip's two words, and not one of them
+  pub two_words_below : (old new : Bor (List ℕ)) → old.now ≡ 7 ∷ 8 ∷ 9 ∷ [] → new.now ≡ 9 ∷ [] → LowersBoth strip_stock TakesTwoWords (record { own = 3; below = record { words = old } }) (record { own = 2; below = record { words = new } })
+  pub not_one_word_below : (old new : Bor (List ℕ)) → old.now ≡ 7 ∷ 8 ∷ 9 ∷ [] → new.now ≡ 8 ∷ 9 ∷ [] → LowersBoth strip_stock TakesTwoWords (record { own = 3; below = record { words = old } }) (record { own = 2; below = record { words = new } }) → ⊥
 
 pub record Halves : Type 0 where
   pub of_5_by_7 : halves_of 5 7 ≡ record { word = 7; difference = 2 ^ 64 - 2 }

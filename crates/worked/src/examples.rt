@@ -1,9 +1,10 @@
-ghost use Rattle.worked.specs.Examples.{Layouts, Places, Ranks, Percentiles, Lines};
+ghost use Rattle.worked.specs.Examples.{Layouts, Kinds, Places, Ranks, Percentiles, Lines};
 ghost use Rattle.worked.specs.Refereeing.{Halves, Marks, Payers, Plays, Questions, Stocks, Verdicts};
 
 /// The definitions that contracts cite give what a reader works out by hand; the call itself does nothing.
 pub fn definitions_work()
     ensures layouts { Layouts }
+    ensures kinds { Kinds }
     ensures places { Places }
     ensures ranks { Ranks }
     ensures percentiles { Percentiles }

@@ -1,4 +1,5 @@
-use Rattle.std.proofs.Common.{refl, lit<, lit≤}
+use Rattle.std.proofs.Common.{refl, arith, lit<, lit≤}
+use Rattle.sheets.specs.declared.kind.Kind.TheVariants as kind
 use Rattle.std.specs.Fmt.{digits}
 use Rattle.worked.proofs.examples.definitions_work.Goals as goal
 
@@ -6,6 +7,12 @@ pub returns : goal.returns
 unfolding digits
 returns c = record {
   layouts = record { empty = refl; two_delays = refl; one_level = refl };
+  kinds = record {
+    of_2 = refl;
+    not_of_2 = λ e. omega (arith, e);
+    known_2 = λ u e. e.1 kind.LinkLevels refl;
+    none_of_3 = elim [ kind.Delays ↦ λ e. omega (arith, e) | kind.LinkLevels ↦ λ e. omega (arith, e) ];
+  };
   places = record { first = refl; last = refl };
   ranks = record {
     in_order = refl;

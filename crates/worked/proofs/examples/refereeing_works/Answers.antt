@@ -6,7 +6,7 @@ use Rattle.worked.proofs.examples.refereeing_works.Goals as goal
 pub returns : goal.returns
 unfolding digits
 returns c = record {
-  verdicts = record { before = refl; equal = refl; marks = refl; equal_marks = refl; at_k = refl; past_n = refl; neither = refl; no_wrap = refl; lesser = refl; lesser_of_equal = refl };
+  verdicts = record { before = refl; equal = refl; marks = refl; equal_marks = refl; at_k = refl; past_n = refl; neither = refl; sums_at_k = refl; sums_past_n = refl; no_wrap = refl; lesser = refl; lesser_of_equal = refl };
   marks = record { mark_shown = refl; element_shown = refl; mark_taken = refl };
   questions = record {
     answer = (refl, refl);
@@ -18,13 +18,15 @@ returns c = record {
     not_untrue = λ e. omega (arith, ap verdict_number e.0);
   };
   payers = record {
-    both = record { own = refl; below = refl; spent_below = tt };
+    both = record { own = refl; below = refl; spent_below = refl };
     not_one = λ e. omega (arith, e.own);
-    the_first = record { first = λ h. (refl, refl, tt); then_second = λ h. absurd (omega (arith, h)) };
-    then_the_second = record { first = λ h. absurd (omega (arith, h)); then_second = λ h. (refl, refl, tt) };
+    the_first = record { first = λ h. (refl, refl, refl); then_second = λ h. absurd (omega (arith, h)) };
+    then_the_second = record { first = λ h. absurd (omega (arith, h)); then_second = λ h. (refl, refl, refl) };
     not_second_first = λ e. omega (arith, (e.first (lit< tt)).1);
     two_words = λ old new p q. q ∙ sym (ap (drop 2) p);
     not_one_word = λ old new p q e. omega (arith, ap length (sym q ∙ e ∙ ap (drop 2) p));
+    two_words_below = λ old new p q. record { own = refl; below = omega (arith, ap length p, ap length q); spent_below = q ∙ sym (ap (drop 2) p) };
+    not_one_word_below = λ old new p q e. omega (arith, ap length (sym q ∙ e.spent_below ∙ ap (drop 2) p));
   };
   halves = record { of_5_by_7 = refl; joined_again = refl };
   stocks = record { told = refl; of_pile = refl; of_smaller_part = refl };
