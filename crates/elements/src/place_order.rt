@@ -4,7 +4,7 @@ ghost use Rattle.std.proofs.Common.{rules};
 
 use crate::ordered::{Ordered, sample_number};
 
-/// Place numbers are an ordered type: what stands in for elements by their places is compared as they are.
+/// Place numbers are an ordered type, so that entries of places compare as entries of any other type do.
 impl Ordered for u64 {
     ghost before = { nat_lt };
 
