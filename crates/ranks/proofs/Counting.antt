@@ -1,5 +1,6 @@
 -- How many elements of a list pass a test.
-use Rattle.std.proofs.Common.{◌≡◌, ℕ, zero, suc, ◌+◌, ◌<◌, ◌≤◌, Bool, true, false, cond, List, [], ◌∷◌, ◌++◌, length, get_or, sum_by, refl, inl, inr, suc-le-suc, zero-le, le_of_suc-le-suc, not-suc-le-zero, arith}
+use Rattle.std.proofs.Common.{◌≡◌, ℕ, zero, suc, ◌+◌, ◌<◌, ◌≤◌, Bool, true, false, cond, not, List, [], ◌∷◌, ◌++◌, map, length, get_or, sum_by, refl, ap, inl, inr, suc-le-suc, zero-le, le_of_suc-le-suc, not-suc-le-zero, arith}
+use Rattle.std.specs.List.{AllByRecursion as All}
 use Rattle.std.proofs.lemmas.List.Sums.{sum_by-cons}
 use Rattle.std.proofs.lemmas.Bool.{cases_Bool, cond-true, cond-false}
 use Rattle.ranks.specs.Ranks.{joint, count}
@@ -49,3 +50,32 @@ module _ {X : Type 0} where
   count-front p [] (suc n) l h = absurd (not-suc-le-zero l)
   count-front p (x ∷ xs) (suc n) l h =
       omega (arith, cond-true {A = ℕ} (p x) 1 0 (h 0 x (omega arith)), count-front p xs n (le_of_suc-le-suc l) (λ i d a. h (suc i) d (suc-le-suc a)))
+
+  -- every element passes a test or does not
+  pub count-not : (p : X → Bool) (xs : List X) → count p xs + count (λ x. not (p x)) xs ≡ length xs
+  count-not p [] = refl
+  count-not p (x ∷ xs) = omega (arith, one (p x), count-not p xs)
+    where
+      one : (b : Bool) → cond b 1 0 + cond (not b) 1 0 ≡ 1
+      one true = refl
+      one false = refl
+
+  -- where all pass, as many pass as there are
+  pub count_all : (p : X → Bool) (xs : List X) → All (λ x. p x ≡ true) xs → count p xs ≡ length xs
+  count_all p [] a = refl
+  count_all p (x ∷ xs) a = omega (arith, cond-true {A = ℕ} (p x) 1 0 a.0, count_all p xs a.1)
+
+  -- where none passes, 0 do
+  pub count_none : (p : X → Bool) (xs : List X) → All (λ x. p x ≡ false) xs → count p xs ≡ 0
+  count_none p [] a = refl
+  count_none p (x ∷ xs) a = omega (arith, cond-false {A = ℕ} (p x) 1 0 a.0, count_none p xs a.1)
+
+  -- as many pass a test as another that answers the same
+  pub count_same : (p q : X → Bool) (xs : List X) → ((x : X) → p x ≡ q x) → count p xs ≡ count q xs
+  count_same p q [] h = refl
+  count_same p q (x ∷ xs) h = rw (h x) (ap (λ (n : ℕ). cond (q x) 1 0 + n) (count_same p q xs h))
+
+-- of what a list is mapped to, as many pass a test as elements of the list pass it once they are mapped
+pub count-map : {X Y : Type 0} (p : Y → Bool) (f : X → Y) (xs : List X) → count p (map f xs) ≡ count (λ x. p (f x)) xs
+count-map p f [] = refl
+count-map p f (x ∷ xs) = ap (λ (n : ℕ). cond (p (f x)) 1 0 + n) (count-map p f xs)

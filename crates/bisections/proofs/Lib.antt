@@ -1,0 +1,12 @@
+pub mod Logarithms
+pub mod Orders
+pub mod Rows
+pub mod Bisecting
+pub mod Cuts
+pub mod Rebuilding
+pub mod Consistency
+pub mod Clamping
+pub mod Explaining
+pub mod Nearest
+pub mod Bounding
+pub mod Finishing

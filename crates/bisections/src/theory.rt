@@ -1,0 +1,19 @@
+ghost use Rattle.bisections.specs.Laws.{BisectionFindsRank, VerdictsAreLogOfRank, SeatsRebuild, ExplainedIfConsistent, NearestPlacesDecide, BoundsDecide, EveryFinishedIsBisection};
+
+use elements::ordered::Ordered;
+
+/// What holds of a bisection over the rows of two lists, in every ordered type: what its clauses say is proved, and the
+/// call itself does nothing.
+pub fn bisections_find_ranks<T: Ordered>()
+    ensures finds { BisectionFindsRank T.Ordered.before }
+    ensures verdicts { VerdictsAreLogOfRank T.Ordered.before }
+    ensures rebuilt { SeatsRebuild T.Ordered.before }
+{}
+
+/// The same of reports, whoever gives them: which can be true, what decides it, and what a finished exchange comes to.
+pub fn reports_have_lists<T: Ordered>()
+    ensures explained { ExplainedIfConsistent T.Ordered.before }
+    ensures nearest { NearestPlacesDecide T.Ordered.before }
+    ensures bounds { BoundsDecide T.Ordered.before }
+    ensures finished { EveryFinishedIsBisection T.Ordered.before }
+{}

@@ -1,0 +1,4 @@
+pub mod Records
+pub mod Tallies
+pub mod Nesting
+pub mod Weaving

@@ -1,0 +1,34 @@
+ghost use Rattle.std.specs.Prelude.{◌≡◌, ℕ, List, length, slice_get, slice_set};
+ghost use Rattle.std.specs.List.{AllZip};
+ghost use Rattle.records.specs.Records.{IsAfter};
+ghost use Rattle.records.specs.Tallies.{capped_tally};
+ghost use Rattle.records.specs.declared.record.Record.{Record};
+
+use crate::record::Record;
+use crate::tally::Tally;
+use referees::verdict::GroupVerdict;
+
+/// Some records, as many in every value of the type, each told by its number, from 0 on.
+pub trait Records {
+    ghost seats: { Self → List Record };
+
+    ghost COUNT: { ℕ };
+
+    /// The record of that number, or none where there are not so many.
+    fn get(&self, i: u32) -> Option<Record>
+        ensures { result ≡ slice_get (seats self.now) i };
+
+    /// Puts a record in the place of the one of that number. Where there are not so many, nothing changes.
+    fn put(&mut self, i: u32, seat: Record)
+        ensures { seats self.new ≡ slice_set (seats self.old) i seat };
+
+    /// Each record after a verdict.
+    fn advance(&mut self, verdict: GroupVerdict)
+        ensures { AllZip (IsAfter verdict) (seats self.old) (seats self.new) };
+
+    /// What the records add up to.
+    fn tally(&self) -> Tally
+        ensures { result ≡ capped_tally (seats self.now) };
+
+    ghost counted: { (records : Self) → length (seats records) ≡ COUNT };
+}

@@ -1,0 +1,10 @@
+pub mod Logarithms
+pub mod Places
+pub mod BelowAndAbove
+pub mod Verdicts
+pub mod Weighing
+pub mod NeverEmpty
+pub mod Building
+pub mod Explained
+pub mod FiveRules
+pub mod Finishing

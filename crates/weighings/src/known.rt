@@ -1,0 +1,8 @@
+/// What a group knows of a seat while its range is `a` to `b`: the length of its list, how many of its places are below
+/// `a` at least, and how many above `b` at least.
+#[derive(Clone, Copy, Debug, PartialEq, Eq)]
+pub struct Known {
+    pub declared: u32,
+    pub low: u32,
+    pub high: u32,
+}

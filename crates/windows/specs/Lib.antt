@@ -1,0 +1,2 @@
+pub mod Powers
+pub mod Windows
