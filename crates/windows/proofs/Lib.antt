@@ -1,1 +1,2 @@
 pub mod Halvings
+pub mod Following

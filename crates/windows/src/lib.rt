@@ -5,4 +5,5 @@
 pub mod halving;
 pub mod row;
 pub mod testing;
+pub mod theory;
 pub mod window;

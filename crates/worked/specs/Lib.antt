@@ -1,3 +1,5 @@
 pub mod Examples
 pub mod Carrying
 pub mod Refereeing
+pub mod Pairs
+pub mod Groups

@@ -1,4 +1,6 @@
 ghost use Rattle.worked.specs.Examples.{Layouts, Kinds, Places, Ranks, Percentiles, Lines};
+ghost use Rattle.worked.specs.Groups.{Countings, GroupRuns, Rules, Targets};
+ghost use Rattle.worked.specs.Pairs.{Bisections, Rebuilt, Rows, Tests};
 ghost use Rattle.worked.specs.Refereeing.{Halves, Marks, Payers, Plays, Questions, Stocks, Verdicts};
 
 /// The definitions that contracts cite give what a reader works out by hand; the call itself does nothing.
@@ -20,4 +22,20 @@ pub fn refereeing_works()
     ensures halves { Halves }
     ensures stocks { Stocks }
     ensures plays { Plays }
+{}
+
+/// The same of the definitions of a pair's exchange.
+pub fn bisecting_works()
+    ensures rows { Rows }
+    ensures bisections { Bisections }
+    ensures rebuilt { Rebuilt }
+    ensures tests { Tests }
+{}
+
+/// The same of the definitions of a group's exchange.
+pub fn weighing_works()
+    ensures targets { Targets }
+    ensures countings { Countings }
+    ensures runs { GroupRuns }
+    ensures rules { Rules }
 {}

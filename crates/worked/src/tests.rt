@@ -1,3 +1,5 @@
+use bisections::bounds::Bounds;
+use bisections::side::Side;
 use counters::plain::Plain;
 use elements::delay::Delay;
 use elements::entry::Entry;
@@ -9,12 +11,21 @@ use faults::refusal::Refusal;
 use piles::playing::{PileNumbers, play_on_loan};
 use plays::line::Line;
 use questions::question::Question;
+use ranges::range::Range;
+use records::record::Record;
+use records::records::Records;
+use records::sixteen::{sixteen_of, tally_sixteen};
+use records::tally::Tally;
 use referees::referee::Referee;
+use referees::verdict::{GroupVerdict, PairVerdict};
 use spares::spare::Spare;
 use std::alloc::{AllocError, Global};
 use std::test::Fail;
 use strips::halves::Halves;
 use summaries::checking::check_sheet;
+use weighings::counts::Counts;
+use windows::row::row_length;
+use windows::window::Window;
 
 #[test]
 fn places_of_link_levels(rt: HostRuntime) {
@@ -120,4 +131,104 @@ fn more_than_32_bits_are_told_as_the_greatest_number(rt: HostRuntime) {
     assert_eq!(rt; Referee::<Delay>::left(&most), u32::MAX);
     let spared = Spare::of(most, Plain::with_stock(1));
     assert_eq!(rt; Referee::<Delay>::left(&spared), u32::MAX);
+}
+
+#[test]
+fn rows_are_powers_of_two(rt: HostRuntime) {
+    for (k, length) in [
+        (0, 1),
+        (1, 1),
+        (2, 2),
+        (3, 4),
+        (5, 8),
+        (131_072, 131_072),
+        (u32::MAX, 0x1_0000_0000),
+    ] {
+        assert_eq!(rt; row_length(k), length);
+    }
+}
+
+// A has 12, 40, 55 and B has 20, 31, 70: for rank 6 the verdicts are 1, 0, 1.
+#[test]
+fn a_window_follows_its_verdicts(rt: HostRuntime) {
+    let mut window = Window::whole(6);
+    for (a, b, verdict) in [
+        (4, 4, PairVerdict::Before),
+        (6, 2, PairVerdict::NotBefore),
+        (5, 3, PairVerdict::Before),
+    ] {
+        assert_eq!(rt; window.place_asked(Side::A), a);
+        assert_eq!(rt; window.place_asked(Side::B), b);
+        window = window.halved(verdict);
+    }
+    assert_eq!(rt; window.size, 1);
+    assert_eq!(rt; window.place_asked(Side::A), 6);
+    assert_eq!(rt; window.place_asked(Side::B), 3);
+    assert_eq!(rt; window.halved(PairVerdict::Before), window);
+}
+
+#[test]
+fn a_report_is_tested_against_two_entries(rt: HostRuntime) {
+    let reported = Entry::Element(Delay { micros: 40 });
+    let window = Window::whole(4).halved(PairVerdict::NotBefore);
+    let bounds = Bounds {
+        low: Entry::Below,
+        high: reported,
+    };
+    let later = Entry::Element(Delay { micros: 55 });
+    assert!(rt; !window.passes(Side::A, 3, bounds, later));
+    assert!(rt; !window.passes(Side::A, 3, bounds, Entry::Below));
+    assert!(rt; window.passes(Side::A, 3, bounds, reported));
+}
+
+#[test]
+fn a_range_closes_in_on_9(rt: HostRuntime) {
+    let mut range = Range::over(0, 15).unwrap();
+    for (target, verdict) in [
+        (8, GroupVerdict::Higher),
+        (12, GroupVerdict::Lower),
+        (10, GroupVerdict::Lower),
+        (9, GroupVerdict::Done),
+    ] {
+        assert_eq!(rt; range.target(), target);
+        range = range.narrowed(verdict);
+    }
+    assert_eq!(rt; Some(range), Range::over(9, 9));
+}
+
+#[test]
+fn ranges_reach_the_last_place(rt: HostRuntime) {
+    assert_eq!(rt; Range::over(0, u64::MAX).unwrap().target(), 0x8000_0000_0000_0000);
+    let last = Range::over(u64::MAX, u64::MAX).unwrap();
+    assert_eq!(rt; last.target(), u64::MAX);
+    assert_eq!(rt; last.narrowed(GroupVerdict::Higher), last);
+    let first = Range::over(0, 0).unwrap();
+    assert_eq!(rt; first.narrowed(GroupVerdict::Lower), first);
+    assert!(rt; Range::over(8, 7).is_none());
+}
+
+#[test]
+fn sixteen_records_are_told_by_number(rt: HostRuntime) {
+    let empty = Record::unheard(0).unwrap();
+    let mut records = sixteen_of(empty);
+    let range = Range::over(0, 15).unwrap();
+    for (number, below) in [(0, 65_536), (5, 1), (15, 2)] {
+        let counts = Counts { below, above: 0 };
+        let seat = Record::unheard(65_536).unwrap().reporting(range, counts);
+        records.put(number, seat.unwrap_or(empty));
+        assert_eq!(rt; records.get(number), seat);
+    }
+    assert_eq!(rt; records.get(4), Some(empty));
+    assert_eq!(rt; records.get(16), None);
+    let tally = Tally {
+        given: 3,
+        below: 65_539,
+        above: 0,
+    };
+    assert_eq!(rt; tally_sixteen(&records), tally);
+    records.advance(GroupVerdict::Lower);
+    assert_eq!(rt; tally_sixteen(&records).given, 0);
+    let known = records.get(5).map(|seat| seat.known.high);
+    assert_eq!(rt; known, Some(65_535));
+    assert!(rt; Record::unheard(65_537).is_none());
 }

@@ -1,0 +1,25 @@
+-- What windows come to that are halved by one verdict after another.
+use Rattle.std.specs.Prelude.{◌≡◌, ℕ, ◌-◌, ◌^◌, ◌≤◌, List, [], ◌∷◌, length}
+use Rattle.bisections.specs.Rows.{halvings}
+use Rattle.bisections.specs.Windows.{offset_after}
+use Rattle.bisections.specs.declared.side.Side.{Side}
+use Rattle.referees.specs.declared.verdict.PairVerdict.{PairVerdict}
+use Rattle.windows.specs.Windows.{IsWhole, Halves, offset_of}
+use Rattle.windows.specs.declared.window.Window.{Window}
+
+-- one window is what verdicts, the first of them first, leave of another
+pub data HalvedBy : Window → List PairVerdict → Window → Type 0 where
+  by_none : {window : Window} → HalvedBy window [] window
+  by_first : {old next new : Window} {verdict : PairVerdict} {later : List PairVerdict} →
+      Halves old verdict next → HalvedBy next later new → HalvedBy old (verdict ∷ later) new
+
+-- A window that is whole at first has, after verdicts of which there are no more than the row has halvings, the offsets that
+-- the bisection gives it, and as many halvings less.
+pub record FollowsVerdicts (rank : ℕ) (verdicts : List PairVerdict) (window : Window) : Type 0 where
+  pub offsets : (side : Side) → offset_of side window ≡ offset_after side 0 (halvings rank) verdicts
+  pub size : window.size ≡ 2 ^ (halvings rank - length verdicts)
+
+abbrev pub WindowsFollowVerdicts : Type 0
+WindowsFollowVerdicts =
+    (rank : ℕ) (whole window : Window) (verdicts : List PairVerdict) → IsWhole rank whole → HalvedBy whole verdicts window →
+    length verdicts ≤ halvings rank → FollowsVerdicts rank verdicts window

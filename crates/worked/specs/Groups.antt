@@ -1,0 +1,59 @@
+-- Worked examples of a group's exchange: the lists are 3, 9 and 4 and 9, 12, each element is its own place, the range is 0
+-- to 15 and the rank is 3.
+use Rattle.std.specs.Prelude.{◌≡◌, ℕ, ◌-◌, ◌^◌, true, false, List, [], ◌∷◌}
+use Rattle.referees.specs.declared.verdict.GroupVerdict.{GroupVerdict}
+use Rattle.referees.specs.declared.verdict.GroupVerdict.TheVariants.{Lower, Higher, Done}
+use Rattle.weighings.specs.Counting.{below, above, weighed, told_by}
+use Rattle.weighings.specs.Laws.{Standing, standing_after}
+use Rattle.weighings.specs.Ranges.{target}
+use Rattle.weighings.specs.Runs.{Run}
+use Rattle.weighings.specs.Seats.{Round, round, unheard, keeps_rules}
+use Rattle.weighings.specs.declared.counts.Counts.{Counts}
+use Rattle.weighings.specs.declared.known.Known.{Known}
+
+abbrev three_lists : List (List ℕ)
+three_lists = (3 ∷ 9 ∷ []) ∷ (4 ∷ []) ∷ (9 ∷ 12 ∷ []) ∷ []
+
+abbrev place : ℕ → ℕ
+place n = n
+
+abbrev counts : (l g : ℕ) → Counts
+counts l g = record { below = l; above = g }
+
+abbrev known : (declared low high : ℕ) → Known
+known declared low high = record { declared = declared; low = low; high = high }
+
+abbrev four_verdicts : List GroupVerdict
+four_verdicts = Higher ∷ Lower ∷ Lower ∷ Done ∷ []
+
+pub record Targets : Type 0 where
+  pub first : target 0 15 ≡ 8
+  pub second : target 9 15 ≡ 12
+  pub third : target 9 11 ≡ 10
+  pub fourth : target 9 9 ≡ 9
+  pub of_all_places : target 0 (2 ^ 64 - 1) ≡ 2 ^ 63
+  pub of_the_last_two : target (2 ^ 64 - 2) (2 ^ 64 - 1) ≡ 2 ^ 64 - 1
+
+-- the first seat's list at the four targets
+pub record Countings : Type 0 where
+  pub below_8 : below 8 (3 ∷ 9 ∷ []) ≡ 1
+  pub above_8 : above 8 (3 ∷ 9 ∷ []) ≡ 1
+  pub below_9 : below 9 (3 ∷ 9 ∷ []) ≡ 1
+  pub above_9 : above 9 (3 ∷ 9 ∷ []) ≡ 0
+
+pub record GroupRuns : Type 0 where
+  pub weighed_run : Run (weighed place 3 three_lists) 0 15 four_verdicts 9
+  pub told_run : Run (told_by 9) 0 15 four_verdicts 9
+  pub one_place : Run (weighed place 1 ((7 ∷ []) ∷ (7 ∷ []) ∷ [])) 7 7 (Done ∷ []) 7
+
+-- the first seat's honest rounds before the fourth
+abbrev three_rounds : List Round
+three_rounds = round (counts 1 1) Higher ∷ round (counts 2 0) Lower ∷ round (counts 2 0) Lower ∷ []
+
+-- Both ends of the range are 9 then, and one place is known to be below: two can not be, though the first three rules pass.
+pub record Rules : Type 0 where
+  pub standing : standing_after (record { a = 0; b = 15; seat = unheard 2 }) three_rounds ≡ record { a = 9; b = 9; seat = known 2 1 0 }
+  pub honest : keeps_rules 9 9 (known 2 1 0) (counts 1 0) ≡ true
+  pub at_edge : keeps_rules 9 9 (known 2 1 0) (counts 2 0) ≡ false
+  pub too_many : keeps_rules 0 15 (known 2 0 0) (counts 2 1) ≡ false
+  pub too_few_below : keeps_rules 9 15 (known 2 1 0) (counts 0 2) ≡ false
