@@ -1,4 +1,10 @@
+ghost use Rattle.std.specs.Prelude.{◌≡◌};
+ghost use Rattle.bisections.specs.Kept.{bounds_after, widest};
+
+use crate::side::Side;
 use elements::entry::Entry;
+use elements::ordered::Ordered;
+use referees::verdict::PairVerdict;
 
 /// The two entries of a seat that are kept for its window: the one reported at the window's offset, and the one reported
 /// at its end. Where nothing was reported, at the ends of the row, below and above stand in.
@@ -6,4 +12,33 @@ use elements::entry::Entry;
 pub struct Bounds<T> {
     pub low: Entry<T>,
     pub high: Entry<T>,
+}
+
+impl<T: Ordered> Bounds<T> {
+    /// What is kept before any report.
+    pub fn widest() -> Bounds<T>
+        ensures { result ≡ widest }
+    {
+        Bounds {
+            low: Entry::Below,
+            high: Entry::Above,
+        }
+    }
+
+    /// What is kept for a side after a verdict on the entry that it reported at the place asked.
+    pub fn after(self, side: Side, verdict: PairVerdict, entry: Entry<T>) -> Bounds<T>
+        ensures { result ≡ bounds_after side verdict entry self }
+    {
+        if side.moves(verdict) {
+            Bounds {
+                low: entry,
+                high: self.high,
+            }
+        } else {
+            Bounds {
+                low: self.low,
+                high: entry,
+            }
+        }
+    }
 }

@@ -1,5 +1,5 @@
 ghost use Rattle.std.specs.Prelude.{◌≡◌};
-ghost use Rattle.bisections.specs.Kept.{bounds_after, passes, asked_again, widest};
+ghost use Rattle.bisections.specs.Kept.{asked_again, passes};
 ghost use Rattle.bisections.specs.Rows.{belows, row_length, sort_at, sort_of};
 ghost use Rattle.windows.specs.Windows.{offset_of};
 

@@ -1,11 +1,12 @@
 -- Worked examples of a group's exchange: the lists are 3, 9 and 4 and 9, 12, each element is its own place, the range is 0
 -- to 15 and the rank is 3.
 use Rattle.std.specs.Prelude.{◌≡◌, ℕ, ◌-◌, ◌^◌, true, false, List, [], ◌∷◌}
+use Rattle.referees.specs.Verdicts.{weight_of}
 use Rattle.referees.specs.declared.verdict.GroupVerdict.{GroupVerdict}
 use Rattle.referees.specs.declared.verdict.GroupVerdict.TheVariants.{Lower, Higher, Done}
 use Rattle.weighings.specs.Counting.{below, above, weighed, told_by}
 use Rattle.weighings.specs.Laws.{Standing, standing_after}
-use Rattle.weighings.specs.Ranges.{target}
+use Rattle.weighings.specs.Ranges.{target, to_after}
 use Rattle.weighings.specs.Runs.{Run}
 use Rattle.weighings.specs.Seats.{Round, round, unheard, keeps_rules}
 use Rattle.weighings.specs.declared.counts.Counts.{Counts}
@@ -55,5 +56,8 @@ pub record Rules : Type 0 where
   pub standing : standing_after (record { a = 0; b = 15; seat = unheard 2 }) three_rounds ≡ record { a = 9; b = 9; seat = known 2 1 0 }
   pub honest : keeps_rules 9 9 (known 2 1 0) (counts 1 0) ≡ true
   pub at_edge : keeps_rules 9 9 (known 2 1 0) (counts 2 0) ≡ false
+  -- accepted, it would make the verdict lower and the range empty
+  pub would_be_lower : weight_of 3 1 3 5 ≡ Lower
+  pub would_end_at : to_after Lower 9 9 ≡ 8
   pub too_many : keeps_rules 0 15 (known 2 0 0) (counts 2 1) ≡ false
   pub too_few_below : keeps_rules 9 15 (known 2 1 0) (counts 0 2) ≡ false

@@ -2,14 +2,17 @@
 use Rattle.std.specs.Prelude.{◌≡◌, ℕ, true, false, List, [], ◌∷◌, nat_lt}
 use Rattle.bisections.specs.Kept.{passes, widest}
 use Rattle.bisections.specs.Rebuilds.{rebuilt}
-use Rattle.bisections.specs.Rows.{row, row_length, sort_at}
-use Rattle.bisections.specs.Windows.{place_asked, pair_verdicts, pair_result}
+use Rattle.bisections.specs.Rows.{padded, row, row_length, entry_at, sort_at}
+use Rattle.bisections.specs.Windows.{OfSides, place_asked, verdicts, offset_after, pair_verdicts, pair_result}
 use Rattle.bisections.specs.declared.bounds.Bounds.{Bounds}
 use Rattle.bisections.specs.declared.side.Side.{Side}
 use Rattle.bisections.specs.declared.side.Side.TheVariants.{A, B}
+use Rattle.elements.specs.Entries.{lesser_entry}
 use Rattle.elements.specs.declared.entry.Entry.{Entry}
 use Rattle.elements.specs.declared.entry.Entry.TheVariants.{Below, Element, Above}
 use Rattle.referees.specs.declared.sort.Sort.TheVariants.{Below as BelowSort, Element as ElementSort, Above as AboveSort}
+use Rattle.referees.specs.Verdicts.{first_of}
+use Rattle.referees.specs.declared.verdict.PairVerdict.{PairVerdict}
 use Rattle.referees.specs.declared.verdict.PairVerdict.TheVariants.{Before, NotBefore}
 
 abbrev list_of : Side → List ℕ
@@ -49,6 +52,20 @@ pub record Bisections : Type 0 where
   pub result_6 : pair_result nat_lt 6 list_of ≡ Element 70
   pub a_empty : pair_verdicts nat_lt 2 only_b ≡ NotBefore ∷ []
   pub result_a_empty : pair_result nat_lt 2 only_b ≡ Element 31
+
+-- rows for rank 3 without belows
+abbrev above_alone : Side → List (Entry ℕ)
+above_alone side = padded 4 0 3 (list_of side)
+
+abbrev compared_alone : OfSides → PairVerdict
+compared_alone places = first_of nat_lt (entry_at (above_alone A) (places A)) (entry_at (above_alone B) (places B))
+
+-- they lead to the fourth element in place of the third
+pub record WithoutBelows : Type 0 where
+  pub given : verdicts compared_alone (λ side. 0) 2 ≡ NotBefore ∷ Before ∷ []
+  pub offset_a : offset_after A 0 2 (NotBefore ∷ Before ∷ []) ≡ 1
+  pub offset_b : offset_after B 0 2 (NotBefore ∷ Before ∷ []) ≡ 2
+  pub result : lesser_entry nat_lt (entry_at (above_alone A) 2) (entry_at (above_alone B) 3) ≡ Element 40
 
 -- from its own list and the result; with equal elements B writes another verdict than was given
 pub record Rebuilt : Type 0 where

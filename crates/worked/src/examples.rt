@@ -1,6 +1,6 @@
 ghost use Rattle.worked.specs.Examples.{Layouts, Kinds, Places, Ranks, Percentiles, Lines};
 ghost use Rattle.worked.specs.Groups.{Countings, GroupRuns, Rules, Targets};
-ghost use Rattle.worked.specs.Pairs.{Bisections, Rebuilt, Rows, Tests};
+ghost use Rattle.worked.specs.Pairs.{Bisections, Rebuilt, Rows, Tests, WithoutBelows};
 ghost use Rattle.worked.specs.Refereeing.{Halves, Marks, Payers, Plays, Questions, Stocks, Verdicts};
 
 /// The definitions that contracts cite give what a reader works out by hand; the call itself does nothing.
@@ -28,6 +28,7 @@ pub fn refereeing_works()
 pub fn bisecting_works()
     ensures rows { Rows }
     ensures bisections { Bisections }
+    ensures without_belows { WithoutBelows }
     ensures rebuilt { Rebuilt }
     ensures tests { Tests }
 {}

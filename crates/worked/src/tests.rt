@@ -171,10 +171,7 @@ fn a_window_follows_its_verdicts(rt: HostRuntime) {
 fn a_report_is_tested_against_two_entries(rt: HostRuntime) {
     let reported = Entry::Element(Delay { micros: 40 });
     let window = Window::whole(4).halved(PairVerdict::NotBefore);
-    let bounds = Bounds {
-        low: Entry::Below,
-        high: reported,
-    };
+    let bounds = Bounds::widest().after(Side::A, PairVerdict::NotBefore, reported);
     let later = Entry::Element(Delay { micros: 55 });
     assert!(rt; !window.passes(Side::A, 3, bounds, later));
     assert!(rt; !window.passes(Side::A, 3, bounds, Entry::Below));
@@ -198,7 +195,10 @@ fn a_range_closes_in_on_9(rt: HostRuntime) {
 
 #[test]
 fn ranges_reach_the_last_place(rt: HostRuntime) {
-    assert_eq!(rt; Range::over(0, u64::MAX).unwrap().target(), 0x8000_0000_0000_0000);
+    assert_eq!(rt;
+        Range::over(0, u64::MAX).unwrap().target(),
+        0x8000_0000_0000_0000
+    );
     let last = Range::over(u64::MAX, u64::MAX).unwrap();
     assert_eq!(rt; last.target(), u64::MAX);
     assert_eq!(rt; last.narrowed(GroupVerdict::Higher), last);

@@ -28,6 +28,7 @@ returns c = record {
     a_empty = refl;
     result_a_empty = refl;
   };
+  without_belows = record { given = refl; offset_a = refl; offset_b = refl; result = refl };
   rebuilt = record { by_a = refl; by_b = refl; tie = refl; tie_by_a = refl; tie_by_b = refl };
   tests = record { first_place = refl; second_place = refl; last_place = refl; first = refl; no_mark = refl; falls = refl; same = refl; again = refl; less_now = refl };
 }
