@@ -1,5 +1,5 @@
 -- The two bounds of a window decide the rules at the place asked, and a report that passes leaves bounds of the next window.
-use Rattle.std.proofs.Common.{◌≡◌, ℕ, suc, ◌+◌, ◌*◌, ◌^◌, ◌<◌, ◌≤◌, Bool, true, false, cond, not, ◌&&◌, ◌⊎◌, List, [], ◌∷◌, ◌==◌, nat_lt, refl, inl, inr, add-zero, add-one, arith, pow_pos}
+use Rattle.std.proofs.Common.{◌≡◌, ℕ, suc, ◌+◌, ◌^◌, ◌<◌, ◌≤◌, Bool, true, false, cond, not, ◌&&◌, ◌⊎◌, List, [], ◌∷◌, ◌==◌, nat_lt, refl, inl, inr, add-zero, add-one, arith, pow_pos}
 use Rattle.std.proofs.ByRecursion.{All-weaker}
 use Rattle.std.proofs.lemmas.Bool.{false≢true, and_parts, and_from, cases_lt, cond_both, not-true, not_from_false, eqb-true, eq-eqb, ltb-true, lt-ltb}
 use Rattle.elements.specs.Orders.{IsOrder}
@@ -17,6 +17,7 @@ use Rattle.bisections.specs.Laws.{Bounded, BoundsDecide}
 use Rattle.bisections.specs.declared.bounds.Bounds.{Bounds}
 use Rattle.bisections.specs.declared.side.Side.{Side}
 use Rattle.bisections.proofs.Consistency.{Agree, reported_all, all_reported, none_consistent, report_added, reports_never_fall}
+use Rattle.bisections.proofs.Logarithms.{half_of_power}
 use Rattle.bisections.proofs.Nearest.{rules_keep_consistent, consistent_keeps_rules}
 use Rattle.bisections.proofs.Orders.{entry_order, none_before_below, none_after_above}
 
@@ -41,12 +42,6 @@ same_sort_itself AboveSort = refl
 -- a half is at least 1 and at most the whole, which it is only at size 1
 half_within : (size : ℕ) → 0 < size → (0 < half size) × (half size ≤ size) × (half size ≡ size → size ≡ 1)
 half_within size h = omega arith
-
--- half of a power of two is the power before it
-half-power : (j : ℕ) → half (2 ^ suc j) ≡ 2 ^ j
-half-power j =
-    let e : 2 ^ suc j ≡ 2 * 2 ^ j = omega arith in
-    rw e (omega (arith, pow_pos j))
 
 -- what it means that a place was reported before, both ways
 again_parts : (n offset size : ℕ) → asked_again n offset size ≡ true → (size ≡ 1) × (offset + 1 < n)
@@ -251,7 +246,7 @@ halved_bounded {E} {before} o side k d offset j bounds reports e verdict b t =
     let z : 2 ^ suc j ≡ h + h = omega arith in
     let room : offset + (h + h) ≤ n = omega (arith, b.room) in
     record {
-      consistent = rw (half-power j) at (passed_consistent o side k d offset (suc j) bounds reports e b t);
+      consistent = rw (half_of_power j) at (passed_consistent o side k d offset (suc j) bounds reports e b t);
       room = cond_both up h 0 (λ m. offset + m + h ≤ n) (λ _. omega arith) (λ _. omega arith);
       bound = half_bound n offset h (pow_pos j) bounds reports e room (rw z at b.bound) up;
     }

@@ -1,15 +1,11 @@
 -- The halvings of a row are the logarithm of the rank, rounded up, and there are as many verdicts.
-use Rattle.std.proofs.Common.{◌≡◌, ℕ, zero, suc, ◌+◌, ◌^◌, ◌<◌, ◌≤◌, leb, length, refl, ap, inl, inr, add-zero, arith}
+use Rattle.std.proofs.Common.{◌≡◌, ℕ, zero, suc, ◌+◌, ◌*◌, ◌^◌, ◌≤◌, leb, length, refl, ap, inl, inr, add-zero, arith, pow_pos}
 use Rattle.std.proofs.lemmas.Bool.{cases_Bool, cases_lt, cond-true, cond-false, leb-true, leb-false}
 use Rattle.referees.specs.declared.verdict.PairVerdict.{PairVerdict}
 use Rattle.bisections.specs.Rows.{halvings_from, halvings, row_length}
-use Rattle.bisections.specs.Windows.{OfSides, moved, verdicts}
+use Rattle.bisections.specs.Windows.{OfSides, half, moved, verdicts}
 use Rattle.bisections.specs.Laws.{IsCeilLog2}
-
--- a number is less than 2 to the power of it
-less_than_power : (k : ℕ) → k < 2 ^ k
-less_than_power zero = omega arith
-less_than_power (suc k) = omega (arith, less_than_power k)
+use Rattle.ranks.proofs.Powers.{less_than_power}
 
 -- looked for often enough, the power found is at least k
 enough_from : (times i k : ℕ) → k ≤ 2 ^ (i + times) → k ≤ 2 ^ halvings_from times i k
@@ -57,3 +53,9 @@ length-verdicts judge offsets zero = refl
 length-verdicts judge offsets (suc j) =
     let verdict = judge (λ side. offsets side + 2 ^ j) in
     ap suc (length-verdicts judge (λ side. moved side verdict (2 ^ j) (offsets side)) j)
+
+-- half of a power of two is the power before it
+pub half_of_power : (j : ℕ) → half (2 ^ suc j) ≡ 2 ^ j
+half_of_power j =
+    let e : 2 ^ suc j ≡ 2 * 2 ^ j = omega arith in
+    rw e (omega (arith, pow_pos j))

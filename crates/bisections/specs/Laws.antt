@@ -11,7 +11,7 @@ use Rattle.bisections.specs.Kept.{Bound, bounds_after, passes, widest}
 use Rattle.bisections.specs.Rebuilds.{rebuilt}
 use Rattle.bisections.specs.Reports.{Report, Explains, Consistent, KeepsRules}
 use Rattle.bisections.specs.Rows.{halvings, row_length}
-use Rattle.bisections.specs.Windows.{place_asked, moved, pair_verdicts, pair_result, joint_pair}
+use Rattle.bisections.specs.Windows.{OfSides, place_asked, moved, pair_verdicts, pair_result, joint_pair}
 use Rattle.bisections.specs.declared.bounds.Bounds.{Bounds}
 use Rattle.bisections.specs.declared.side.Side.{Side}
 use Rattle.bisections.specs.declared.side.Side.TheVariants.{A, B}
@@ -90,12 +90,12 @@ pub record BoundsDecide {E : Type 0} (before : E → E → Bool) : Type 0 where
       (record { place = offset + 2 ^ j; entry = e } ∷ reports)
 
 -- two lists that explain what both sides reported
-abbrev pub ExplainBoth : {E : Type 0} → (E → E → Bool) → ℕ → (Side → ℕ) → (Side → List (Report E)) → (Side → List E) → Type 0
+abbrev pub ExplainBoth : {E : Type 0} → (E → E → Bool) → ℕ → OfSides → (Side → List (Report E)) → (Side → List E) → Type 0
 ExplainBoth before k declared reports lists = (side : Side) → Explains before side k (declared side) (reports side) (lists side)
 
 -- Whoever lies: a finished exchange is the bisection over every two lists that explain it, its result the element of rank
 -- k of them, and there are such lists.
-pub record FinishedIsBisection {E : Type 0} (before : E → E → Bool) (k : ℕ) (declared : Side → ℕ)
+pub record FinishedIsBisection {E : Type 0} (before : E → E → Bool) (k : ℕ) (declared : OfSides)
     (reports : Side → List (Report E)) (verdicts : List PairVerdict) (result : Entry E) : Type 0 where
   pub some_lists : (lists : Side → List E) × ExplainBoth before k declared reports lists
   pub verdicts_are : (lists : Side → List E) → ExplainBoth before k declared reports lists → reverse verdicts ≡ pair_verdicts before k lists
@@ -103,6 +103,6 @@ pub record FinishedIsBisection {E : Type 0} (before : E → E → Bool) (k : ℕ
 
 abbrev pub EveryFinishedIsBisection : {E : Type 0} → (E → E → Bool) → Type 0
 EveryFinishedIsBisection {E} before =
-    (k : ℕ) (declared : Side → ℕ) → 1 ≤ k → k ≤ declared A + declared B →
+    (k : ℕ) (declared : OfSides) → 1 ≤ k → k ≤ declared A + declared B →
     (reports : Side → List (Report E)) (verdicts : List PairVerdict) (result : Entry E) → Finished before k declared reports verdicts result →
     FinishedIsBisection before k declared reports verdicts result

@@ -7,7 +7,7 @@ use Rattle.referees.specs.declared.sort.Sort.TheVariants.{Below as BelowSort, El
 use Rattle.bisections.specs.declared.side.Side.{Side}
 use Rattle.bisections.specs.declared.side.Side.TheVariants.{A, B}
 
--- the smallest j from i on with k at most 2 ^ j, looked for that many times
+-- the smallest j from i on with k at most 2 ^ j, or i + times where none of so many is
 abbrev pub halvings_from : (times i k : ℕ) → ℕ
 halvings_from zero i k = i
 halvings_from (suc times) i k = let later = halvings_from times (suc i) k in cond (nat_le k (2 ^ i)) i later
@@ -33,10 +33,11 @@ padded n lows k xs = replicate lows Below ++ (map Element (take k xs) ++ replica
 abbrev pub row : {E : Type 0} → Side → ℕ → List E → List (Entry E)
 row side k xs = padded (row_length k) (belows side k) k xs
 
--- the entry at a place of a row; places are counted from 1
+-- the entry at a place of a row; places are counted from 1, and past the row's end stands above
 abbrev pub entry_at : {E : Type 0} → List (Entry E) → ℕ → Entry E
 entry_at entries place = slice_index_or entries (place - 1) Above
 
+-- what an entry is, apart from which element it is
 abbrev pub sort_of : {E : Type 0} → Entry E → Sort
 sort_of Below = BelowSort
 sort_of (Element x) = ElementSort

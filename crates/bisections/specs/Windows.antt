@@ -10,7 +10,7 @@ use Rattle.bisections.specs.Rows.{halvings, row, entry_at}
 use Rattle.bisections.specs.declared.side.Side.{Side}
 use Rattle.bisections.specs.declared.side.Side.TheVariants.{A, B}
 
--- half a window's size, but at least 1: so far from the offset is the place asked, and this size a verdict leaves
+-- half a window's size, but at least 1: the place asked is so far past the offset, and a verdict leaves a window of this size
 abbrev pub half : ℕ → ℕ
 half size = max 1 (size / 2)
 

@@ -13,3 +13,8 @@ IsOver lo hi None = hi < lo
 pub record Narrows (old : Range) (verdict : GroupVerdict) (new : Range) : Type 0 where
   pub from_is : new.from ≡ min old.to (from_after verdict old.from old.to)
   pub to_is : new.to ≡ max old.from (to_after verdict old.from old.to)
+
+-- the new ends are those that the verdict sets
+pub record Follows (old : Range) (verdict : GroupVerdict) (new : Range) : Type 0 where
+  pub from_is : new.from ≡ from_after verdict old.from old.to
+  pub to_is : new.to ≡ to_after verdict old.from old.to

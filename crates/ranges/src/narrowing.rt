@@ -1,7 +1,7 @@
 ghost use Rattle.std.specs.Prelude.{◌≡◌};
-ghost use Rattle.weighings.specs.Ranges.{target};
+ghost use Rattle.weighings.specs.Ranges.{target, LeavesPlace};
 ghost use Rattle.weighings.specs.Seats.{keeps_rules};
-ghost use Rattle.ranges.specs.Ranges.{IsOver, Narrows};
+ghost use Rattle.ranges.specs.Ranges.{Follows, IsOver, Narrows};
 
 use crate::range::Range;
 use referees::verdict::GroupVerdict;
@@ -29,7 +29,8 @@ impl Range {
     /// The range that a verdict on the target leaves. Where it would be empty, which no accepted reports bring about, the
     /// end that would pass the other stays at it.
     pub fn narrowed(self, verdict: GroupVerdict) -> Range
-        ensures { Narrows self verdict result }
+        ensures narrows { Narrows self verdict result }
+        ensures follows { LeavesPlace verdict self.from self.to → Follows self verdict result }
     {
         let target = self.target();
         match verdict {

@@ -1,3 +1,4 @@
+pub mod Powers
 pub mod Counting
 pub mod Sorting
 pub mod Ranking

@@ -1,2 +1,2 @@
 pub mod Weaves
-pub mod Tallying
+pub mod Totalling

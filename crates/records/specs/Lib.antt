@@ -1,4 +1,4 @@
 pub mod Records
-pub mod Tallies
+pub mod Totals
 pub mod Nesting
 pub mod Weaving

@@ -22,5 +22,6 @@ abbrev pub known_next : GroupVerdict → Known → Option Counts → Known
 known_next verdict known None = known
 known_next verdict known (Some counts) = known_after verdict known counts
 
+-- after a verdict: what is known then, and nothing given yet
 abbrev pub IsAfter : GroupVerdict → Record → Record → Type 0
 IsAfter verdict old new = (new.known ≡ known_next verdict old.known old.given) × (new.given ≡ None)

@@ -6,5 +6,5 @@ pub mod nesting;
 pub mod record;
 pub mod records;
 pub mod sixteen;
-pub mod tally;
+pub mod totals;
 pub mod two;

@@ -5,7 +5,7 @@ ghost use Rattle.records.specs.Weaving.{length-weave};
 
 use crate::record::Record;
 use crate::records::Records;
-use crate::tally::Tally;
+use crate::totals::Totals;
 use crate::two::Two;
 use referees::verdict::GroupVerdict;
 
@@ -31,14 +31,14 @@ impl Records for Record {
         *self = self.after(verdict);
     }
 
-    fn tally(&self) -> Tally {
+    fn totals(&self) -> Totals {
         match self.given {
-            Some(counts) => Tally {
+            Some(counts) => Totals {
                 given: 1,
                 below: counts.below,
                 above: counts.above,
             },
-            None => Tally {
+            None => Totals {
                 given: 0,
                 below: 0,
                 above: 0,
@@ -82,8 +82,8 @@ impl<R: Records> Records for Two<R> {
         self.odd.advance(verdict);
     }
 
-    #[tactic(auto, using(crate::proofs::Tallying::capped_in_turns))]
-    fn tally(&self) -> Tally {
-        self.even.tally().with(self.odd.tally())
+    #[tactic(auto, using(crate::proofs::Totalling::capped_in_turns))]
+    fn totals(&self) -> Totals {
+        self.even.totals().with(self.odd.totals())
     }
 }

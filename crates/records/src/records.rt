@@ -1,11 +1,11 @@
 ghost use Rattle.std.specs.Prelude.{◌≡◌, ℕ, List, length, slice_get, slice_set};
 ghost use Rattle.std.specs.List.{AllZip};
 ghost use Rattle.records.specs.Records.{IsAfter};
-ghost use Rattle.records.specs.Tallies.{capped_tally};
+ghost use Rattle.records.specs.Totals.{capped_totals};
 ghost use Rattle.records.specs.declared.record.Record.{Record};
 
 use crate::record::Record;
-use crate::tally::Tally;
+use crate::totals::Totals;
 use referees::verdict::GroupVerdict;
 
 /// Some records, as many in every value of the type, each told by its number, from 0 on.
@@ -27,8 +27,8 @@ pub trait Records {
         ensures { AllZip (IsAfter verdict) (seats self.old) (seats self.new) };
 
     /// What the records add up to.
-    fn tally(&self) -> Tally
-        ensures { result ≡ capped_tally (seats self.now) };
+    fn totals(&self) -> Totals
+        ensures { result ≡ capped_totals (seats self.now) };
 
     ghost counted: { (records : Self) → length (seats records) ≡ COUNT };
 }

@@ -1,10 +1,10 @@
 ghost use Rattle.std.specs.Prelude.{◌≡◌, replicate};
 ghost use Rattle.records.specs.Nesting.{sixteen_seats};
-ghost use Rattle.records.specs.Tallies.{tally_of};
+ghost use Rattle.records.specs.Totals.{totals_of};
 
 use crate::record::Record;
 use crate::records::Records;
-use crate::tally::Tally;
+use crate::totals::Totals;
 use crate::two::{Sixteen, Two};
 
 /// Two halves that are alike.
@@ -26,9 +26,9 @@ pub fn sixteen_of(seat: Record) -> Sixteen
 }
 
 /// What sixteen records add up to. Nothing is capped, since no list is longer than 65,536.
-#[tactic(auto, using(crate::proofs::Tallying::sixteen_fit), unfolding(crate::specs::Nesting::sixteen_seats))]
-pub fn tally_sixteen(records: &Sixteen) -> Tally
-    ensures { result ≡ tally_of (sixteen_seats records.now) }
+#[tactic(auto, using(crate::proofs::Totalling::sixteen_fit), unfolding(crate::specs::Nesting::sixteen_seats))]
+pub fn totals_of_sixteen(records: &Sixteen) -> Totals
+    ensures { result ≡ totals_of (sixteen_seats records.now) }
 {
-    records.tally()
+    records.totals()
 }

@@ -1,12 +1,8 @@
 -- Logarithms to the base 2.
 use Rattle.std.proofs.Common.{◌≡◌, ℕ, zero, suc, ◌+◌, ◌^◌, ◌<◌, ◌≤◌, inl, inr, arith}
 use Rattle.std.proofs.lemmas.Bool.{cases_lt}
+use Rattle.ranks.proofs.Powers.{less_than_power}
 use Rattle.weighings.specs.Laws.{IsFloorLog2, AtMostLog}
-
--- a number is smaller than its power of two
-pub below_pow : (w : ℕ) → w < 2 ^ w
-below_pow zero = omega arith
-below_pow (suc w) = omega (arith, below_pow w)
 
 -- a number from 1 on that is smaller than a power of two has a logarithm
 log_below : (w j : ℕ) → 1 ≤ w → w < 2 ^ j → (i : ℕ) × IsFloorLog2 w i
@@ -19,4 +15,4 @@ log_below w (suc j) one h =
 
 -- what is at most every j where w is smaller than 2 ^ j is at most one more than the logarithm of w
 pub at_most_log : (w n : ℕ) → 1 ≤ w → ((j : ℕ) → w < 2 ^ j → n ≤ j) → AtMostLog w n
-at_most_log w n one few = record { logarithm = log_below w w one (below_pow w); at_most = λ j h. few (j + 1) h.1 }
+at_most_log w n one few = record { logarithm = log_below w w one (less_than_power w); at_most = λ j h. few (j + 1) h.1 }

@@ -5,6 +5,7 @@ use Rattle.std.proofs.lemmas.Bool.Decides.{nat_tests}
 use Rattle.elements.specs.Orders.{IsOrder, PlacesAgree}
 use Rattle.ranks.specs.Ranks.{joint, count, Ranked, Counted}
 use Rattle.ranks.proofs.Counting.{count_weaken, count-not}
+use Rattle.ranks.proofs.Powers.{less_than_power}
 use Rattle.ranks.proofs.Ranking.{ranked_counted, ranked_all}
 use Rattle.referees.specs.Verdicts.{weight_of}
 use Rattle.referees.specs.declared.verdict.GroupVerdict.{GroupVerdict}
@@ -13,7 +14,7 @@ use Rattle.weighings.specs.Counting.{below, above, weighed, told_by}
 use Rattle.weighings.specs.Laws.{WeighingFindsRank}
 use Rattle.weighings.specs.Ranges.{target}
 use Rattle.weighings.specs.Runs.{Run, done, lower, higher}
-use Rattle.weighings.proofs.Logarithms.{below_pow, at_most_log}
+use Rattle.weighings.proofs.Logarithms.{at_most_log}
 use Rattle.weighings.proofs.Verdicts.{weight_lower, weight_higher, weight_done, told_lower, told_higher, told_done}
 use Rattle.weighings.proofs.Places.{counted_places, sum_counts, sum_lengths, all_joint}
 
@@ -96,7 +97,7 @@ module _ {E : Type 0} {before : E → E → Bool} (place : E → ℕ) (order : I
       let referee = weighed place k lists in
       let alone = told_by (place x) in
       let agree = weighed_told lists k x r in
-      let some = closes (place x) size lo hi inside.0 inside.1 (below_pow size) in
+      let some = closes (place x) size lo hi inside.0 inside.1 (less_than_power size) in
       record {
         some_run = (some.0, same_run alone referee (λ m. sym (agree m)) some.1);
         ends_there = λ verdicts m run. (one_run alone (same_run referee alone agree run) some.1).1;

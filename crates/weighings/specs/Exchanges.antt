@@ -26,7 +26,8 @@ all_known_after verdict (seat ∷ seats) [] = []
 all_known_after verdict (seat ∷ seats) (counts ∷ told) = known_after verdict seat counts ∷ all_known_after verdict seats told
 
 module _ (k : ℕ) (declared : List ℕ) where
-  -- accepted rounds, so many and none of them done, lead from the range lo to hi to the range a to b, and to this of the seats
+  -- accepted rounds, so many and none with the verdict done, lead from the range lo to hi to the range a to b, where this is
+  -- known of the seats
   pub data Reached (lo hi : ℕ) : (a b : ℕ) → List Known → (rounds : ℕ) → Type 0 where
     opened : Reached lo hi lo hi (map unheard declared) 0
     lowered : {a b rounds : ℕ} {seats : List Known} (told : List Counts) → Reached lo hi a b seats rounds → AllPossible a b seats told →
@@ -38,8 +39,8 @@ module _ (k : ℕ) (declared : List ℕ) where
 pub data Turn : Type 0 where
   turn : List Counts → GroupVerdict → Turn
 
--- From the range a to b and this of the seats, these turns finish at the place m: every report is possible when it comes,
--- every verdict is the true one on the sums, and done comes last.
+-- From the range a to b, where this is known of the seats, these turns finish at the place m: every report is possible when
+-- it comes, every verdict is the true one on the sums, and done comes last.
 pub data Finishes (k n : ℕ) : (a b : ℕ) → List Known → List Turn → (m : ℕ) → Type 0 where
   done : {a b : ℕ} {seats : List Known} (told : List Counts) → AllPossible a b seats told → verdict_on k n told ≡ Done →
       Finishes k n a b seats (turn told Done ∷ []) (target a b)

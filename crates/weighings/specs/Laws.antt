@@ -22,8 +22,9 @@ pub record AtMostLog (w n : ℕ) : Type 0 where
   pub at_most : (j : ℕ) → IsFloorLog2 w j → n ≤ j + 1
 
 module _ {E : Type 0} (before : E → E → Bool) (place : E → ℕ) where
-  -- The weighing of lists within lo to hi has a run; every run of it ends at the place of the element of rank k, within
-  -- the logarithm of the number of places rounded down, and one; and its verdicts are those rebuilt from that place alone.
+  -- The weighing of lists within lo to hi has a run; every run of it ends at the place of the element of rank k, within one
+  -- round more than the logarithm, rounded down, of the number of places; and its verdicts are those rebuilt from that
+  -- place alone.
   pub record FindsRank (lists : List (List E)) (lo hi k : ℕ) (x : E) : Type 0 where
     pub some_run : (verdicts : List GroupVerdict) × Run (weighed place k lists) lo hi verdicts (place x)
     pub ends_there : (verdicts : List GroupVerdict) (m : ℕ) → Run (weighed place k lists) lo hi verdicts m → m ≡ place x
@@ -47,7 +48,7 @@ pub record TestIsFiveRules : Type 0 where
   pub passed : (a b : ℕ) (seat : Known) (counts : Counts) → keeps_rules a b seat counts ≡ true → Possible a b seat counts
   pub passing : (a b : ℕ) (seat : Known) (counts : Counts) → Possible a b seat counts → keeps_rules a b seat counts ≡ true
 
--- rounds none of which was done
+-- rounds none of which has the verdict done
 abbrev pub NoneDone : List Round → Type 0
 NoneDone [] = Unit {0}
 NoneDone (round counts Lower ∷ later) = NoneDone later
@@ -84,8 +85,8 @@ pub record FiveRulesDecide {E : Type 0} (place : E → ℕ) (lowest highest : �
       (xs : List E) → Explains place lo hi d (reports lo hi (rounds ++ (round counts Done ∷ []))) xs →
       let now = standing_after (record { a = lo; b = hi; seat = unheard d }) rounds in Possible now.a now.b now.seat counts
 
--- Whoever lies: a finished exchange is the run of all lists that explain it, it ended at their element of rank k, within the
--- logarithm of the number of places and one, and there are such lists.
+-- Whoever lies: a finished exchange is the run of all lists that explain it, it ended at their element of rank k, within one
+-- round more than the logarithm of the number of places, and there are such lists.
 pub record FinishedIsRun {E : Type 0} (before : E → E → Bool) (place : E → ℕ) (lo hi k : ℕ) (declared : List ℕ) (turns : List Turn) (m : ℕ) : Type 0 where
   pub some_lists : (lists : List (List E)) × ExplainAll place lo hi declared (group_reports lo hi turns) lists
   pub run : (lists : List (List E)) → ExplainAll place lo hi declared (group_reports lo hi turns) lists →

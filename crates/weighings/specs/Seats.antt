@@ -1,10 +1,10 @@
 -- What a group knows of one seat, what the seat may report, and the lists that explain what it reported.
-use Rattle.std.specs.Prelude.{◌≡◌, ℕ, ◌+◌, ◌-◌, ◌<◌, ◌≤◌, Bool, true, cond, ◌&&◌, List, [], ◌∷◌, map, length, ◌==◌, nat_le}
+use Rattle.std.specs.Prelude.{◌≡◌, ℕ, ◌+◌, ◌-◌, ◌≤◌, Bool, true, cond, ◌&&◌, List, [], ◌∷◌, map, length, ◌==◌, nat_le}
 use Rattle.std.specs.List.{AllByRecursion as All}
 use Rattle.referees.specs.declared.verdict.GroupVerdict.{GroupVerdict}
 use Rattle.referees.specs.declared.verdict.GroupVerdict.TheVariants.{Lower, Higher, Done}
 use Rattle.weighings.specs.Counting.{HasCounts, Within}
-use Rattle.weighings.specs.Ranges.{target, from_after, to_after}
+use Rattle.weighings.specs.Ranges.{target, from_after, to_after, LeavesPlace}
 use Rattle.weighings.specs.declared.counts.Counts.{Counts}
 use Rattle.weighings.specs.declared.known.Known.{Known}
 
@@ -46,10 +46,10 @@ EachPossible a b seat [] = Unit {0}
 EachPossible a b seat (round counts verdict ∷ later) =
     Possible a b seat counts × EachPossible (from_after verdict a b) (to_after verdict a b) (known_after verdict seat counts) later
 
--- a verdict leaves a place in the range, and nothing comes after done
+-- a verdict leaves a place in the range for the later rounds, and nothing comes after done
 abbrev pub Leaves : GroupVerdict → (a b : ℕ) → List Round → Type 0
-Leaves Lower a b later = a < target a b
-Leaves Higher a b later = target a b < b
+Leaves Lower a b later = LeavesPlace Lower a b
+Leaves Higher a b later = LeavesPlace Higher a b
 Leaves Done a b later = later ≡ []
 
 -- no range on the way is empty, and done comes last

@@ -1,5 +1,5 @@
-/// What a group knows of a seat while its range is `a` to `b`: the length of its list, how many of its places are below
-/// `a` at least, and how many above `b` at least.
+/// What a group knows of a seat while its range is `a` to `b`: the declared length of its list, how many of its places are
+/// below `a`, and how many are above `b`.
 #[derive(Clone, Copy, Debug, PartialEq, Eq)]
 pub struct Known {
     pub declared: u32,

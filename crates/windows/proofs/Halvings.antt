@@ -5,7 +5,7 @@ use Rattle.std.proofs.Math.Pow.{pow_mono}
 use Rattle.std.proofs.lemmas.Bool.{cases_lt}
 use Rattle.bisections.specs.Rows.{halvings, row_length}
 use Rattle.bisections.specs.Windows.{half}
-use Rattle.bisections.proofs.Logarithms.{rank_fits_row, halvings_are_log}
+use Rattle.bisections.proofs.Logarithms.{rank_fits_row, halvings_are_log, half_of_power}
 
 -- a power of two that is at least k, and whose half is not, is the length of a row for rank k
 pub next_power_is_row_length : (k p : ℕ) → IsPowerOfTwo p → k ≤ p → p / 2 < max 1 k → p ≡ row_length k
@@ -27,15 +27,12 @@ pub row_length_fits : (k : ℕ) → k < 2 ^ 32 → row_length k ≤ 2 ^ 32
 row_length_fits k small = pow_mono ((halvings_are_log k).least 32 (omega arith))
 
 -- half a power of two, but at least 1, is a power of two
-pub half_of_power : (n : ℕ) → IsPowerOfTwo n → IsPowerOfTwo (half n)
-half_of_power n power = go power.0 power.1
+pub half_is_power : (n : ℕ) → IsPowerOfTwo n → IsPowerOfTwo (half n)
+half_is_power n power = go power.0 power.1
   where
     go : (j : ℕ) → n ≡ 2 ^ j → IsPowerOfTwo (half n)
     go zero is = (0, rw is refl)
-    go (suc j) is =
-        let some : 0 < 2 ^ j = pow_pos j in
-        let double : 2 ^ suc j ≡ 2 * 2 ^ j = omega arith in
-        (j, omega arith)
+    go (suc j) is = (j, rw is (half_of_power j))
 
 -- the size of a window, in two halves, or 1
 pub halves : (n : ℕ) → IsPowerOfTwo n → n / 2 + half n ≡ n
@@ -43,7 +40,4 @@ halves n power = go power.0 power.1
   where
     go : (j : ℕ) → n ≡ 2 ^ j → n / 2 + half n ≡ n
     go zero is = rw is refl
-    go (suc j) is =
-        let some : 0 < 2 ^ j = pow_pos j in
-        let double : 2 ^ suc j ≡ 2 * 2 ^ j = omega arith in
-        omega arith
+    go (suc j) is = let double : 2 ^ suc j ≡ 2 * 2 ^ j = omega arith in omega (arith, rw (← is) at (half_of_power j))

@@ -1,5 +1,5 @@
 -- What windows come to that are halved by one verdict after another.
-use Rattle.std.specs.Prelude.{◌≡◌, ℕ, ◌-◌, ◌^◌, ◌≤◌, List, [], ◌∷◌, length}
+use Rattle.std.specs.Prelude.{◌≡◌, ℕ, ◌-◌, ◌^◌, List, [], ◌∷◌, length}
 use Rattle.bisections.specs.Rows.{halvings}
 use Rattle.bisections.specs.Windows.{offset_after}
 use Rattle.bisections.specs.declared.side.Side.{Side}
@@ -13,8 +13,8 @@ pub data HalvedBy : Window → List PairVerdict → Window → Type 0 where
   by_first : {old next new : Window} {verdict : PairVerdict} {later : List PairVerdict} →
       Halves old verdict next → HalvedBy next later new → HalvedBy old (verdict ∷ later) new
 
--- A window that is whole at first has, after verdicts of which there are no more than the row has halvings, the offsets that
--- the bisection gives it, and as many halvings less.
+-- A window that was whole at first has, after verdicts, the offsets that the bisection gives it, and a size that each verdict
+-- halved, down to 1.
 pub record FollowsVerdicts (rank : ℕ) (verdicts : List PairVerdict) (window : Window) : Type 0 where
   pub offsets : (side : Side) → offset_of side window ≡ offset_after side 0 (halvings rank) verdicts
   pub size : window.size ≡ 2 ^ (halvings rank - length verdicts)
@@ -22,4 +22,4 @@ pub record FollowsVerdicts (rank : ℕ) (verdicts : List PairVerdict) (window : 
 abbrev pub WindowsFollowVerdicts : Type 0
 WindowsFollowVerdicts =
     (rank : ℕ) (whole window : Window) (verdicts : List PairVerdict) → IsWhole rank whole → HalvedBy whole verdicts window →
-    length verdicts ≤ halvings rank → FollowsVerdicts rank verdicts window
+    FollowsVerdicts rank verdicts window

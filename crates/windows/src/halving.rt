@@ -47,7 +47,7 @@ impl Window {
         self.offset(side) + self.half()
     }
 
-    /// The window that a verdict leaves: the upper half of A's row and the lower half of B's, or the other way round. One of
+    /// The window that a verdict leaves: its upper half in A's row and its lower half in B's, or the other way round. One of
     /// size 1 stays as it is.
     pub fn halved(self, verdict: PairVerdict) -> Window
         ensures { Halves self verdict result }

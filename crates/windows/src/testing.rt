@@ -46,7 +46,7 @@ impl Window {
         }
     }
 
-    /// Whether the place that a side is asked for was asked before: at size 1 it is the window's end.
+    /// Whether the place that a side is asked for was asked before: at size 1 it is the window's end, unless that is the row's.
     fn asks_again(self, side: Side) -> bool
         ensures { result ≡ asked_again (row_length self.rank) (offset_of side self) self.size }
     {

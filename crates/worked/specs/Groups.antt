@@ -6,7 +6,7 @@ use Rattle.referees.specs.declared.verdict.GroupVerdict.{GroupVerdict}
 use Rattle.referees.specs.declared.verdict.GroupVerdict.TheVariants.{Lower, Higher, Done}
 use Rattle.weighings.specs.Counting.{below, above, weighed, told_by}
 use Rattle.weighings.specs.Laws.{Standing, standing_after}
-use Rattle.weighings.specs.Ranges.{target, to_after}
+use Rattle.weighings.specs.Ranges.{target, from_after, to_after}
 use Rattle.weighings.specs.Runs.{Run}
 use Rattle.weighings.specs.Seats.{Round, round, unheard, keeps_rules}
 use Rattle.weighings.specs.declared.counts.Counts.{Counts}
@@ -51,7 +51,7 @@ pub record GroupRuns : Type 0 where
 abbrev three_rounds : List Round
 three_rounds = round (counts 1 1) Higher ∷ round (counts 2 0) Lower ∷ round (counts 2 0) Lower ∷ []
 
--- Both ends of the range are 9 then, and one place is known to be below: two can not be, though the first three rules pass.
+-- Both ends of the range are 9 then, and one place is known to be below: two cannot be, though the first three rules pass.
 pub record Rules : Type 0 where
   pub standing : standing_after (record { a = 0; b = 15; seat = unheard 2 }) three_rounds ≡ record { a = 9; b = 9; seat = known 2 1 0 }
   pub honest : keeps_rules 9 9 (known 2 1 0) (counts 1 0) ≡ true
@@ -60,4 +60,9 @@ pub record Rules : Type 0 where
   pub would_be_lower : weight_of 3 1 3 5 ≡ Lower
   pub would_end_at : to_after Lower 9 9 ≡ 8
   pub too_many : keeps_rules 0 15 (known 2 0 0) (counts 2 1) ≡ false
+  -- for rank 4 the same lists come to the same range, and at its other end likewise
+  pub at_other_edge : keeps_rules 9 9 (known 2 1 0) (counts 1 1) ≡ false
+  pub would_be_higher : weight_of 2 2 4 5 ≡ Higher
+  pub would_begin_at : from_after Higher 9 9 ≡ 10
   pub too_few_below : keeps_rules 9 15 (known 2 1 0) (counts 0 2) ≡ false
+  pub too_few_above : keeps_rules 9 11 (known 2 0 1) (counts 2 0) ≡ false

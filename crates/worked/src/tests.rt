@@ -14,8 +14,8 @@ use questions::question::Question;
 use ranges::range::Range;
 use records::record::Record;
 use records::records::Records;
-use records::sixteen::{sixteen_of, tally_sixteen};
-use records::tally::Tally;
+use records::sixteen::{sixteen_of, totals_of_sixteen};
+use records::totals::Totals;
 use referees::referee::Referee;
 use referees::verdict::{GroupVerdict, PairVerdict};
 use spares::spare::Spare;
@@ -220,14 +220,14 @@ fn sixteen_records_are_told_by_number(rt: HostRuntime) {
     }
     assert_eq!(rt; records.get(4), Some(empty));
     assert_eq!(rt; records.get(16), None);
-    let tally = Tally {
+    let totals = Totals {
         given: 3,
         below: 65_539,
         above: 0,
     };
-    assert_eq!(rt; tally_sixteen(&records), tally);
+    assert_eq!(rt; totals_of_sixteen(&records), totals);
     records.advance(GroupVerdict::Lower);
-    assert_eq!(rt; tally_sixteen(&records).given, 0);
+    assert_eq!(rt; totals_of_sixteen(&records).given, 0);
     let known = records.get(5).map(|seat| seat.known.high);
     assert_eq!(rt; known, Some(65_535));
     assert!(rt; Record::unheard(65_537).is_none());

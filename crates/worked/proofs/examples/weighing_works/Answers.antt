@@ -11,5 +11,5 @@ returns c = record {
     told_run = higher (lit≤ tt) refl (lower (lit≤ tt) refl (lower (lit≤ tt) refl (done (lit≤ tt) refl)));
     one_place = done (lit≤ tt) refl;
   };
-  rules = record { standing = refl; honest = refl; at_edge = refl; would_be_lower = refl; would_end_at = refl; too_many = refl; too_few_below = refl };
+  rules = record { standing = refl; honest = refl; at_edge = refl; would_be_lower = refl; would_end_at = refl; too_many = refl; at_other_edge = refl; would_be_higher = refl; would_begin_at = refl; too_few_below = refl; too_few_above = refl };
 }

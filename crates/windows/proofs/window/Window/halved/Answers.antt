@@ -1,11 +1,11 @@
 use Rattle.std.proofs.Common.{ℕ, ap, sym, subst, arith}
 use Rattle.std.specs.Int.{IsPowerOfTwo}
-use Rattle.windows.proofs.Halvings.{half_of_power, halves}
+use Rattle.windows.proofs.Halvings.{half_is_power, halves}
 use Rattle.windows.proofs.window.Window.halved.Goals as goal
 use Rattle.windows.proofs.window.Window.halved.Goals.{in-Before, in-NotBefore}
 
 pub invariant_of-result-clause-power : goal.invariant_of-result-clause-power
-invariant_of-result-clause-power c = subst IsPowerOfTwo (sym c.half.ensures) (half_of_power c.args.self.size c.args.self.power)
+invariant_of-result-clause-power c = subst IsPowerOfTwo (sym c.half.ensures) (half_is_power c.args.self.size c.args.self.power)
 
 pub invariant_of-result-clause-within : goal.invariant_of-result-clause-within
 invariant_of-result-clause-within c =

@@ -2,7 +2,7 @@
 use Rattle.std.specs.Prelude.{ℕ, ◌+◌, ◌-◌, ◌^◌, min, List, Some, None, Option}
 use Rattle.std.specs.List.{sum_by}
 use Rattle.records.specs.declared.record.Record.{Record}
-use Rattle.records.specs.declared.tally.Tally.{Tally}
+use Rattle.records.specs.declared.totals.Totals.{Totals}
 use Rattle.weighings.specs.declared.counts.Counts.{Counts}
 
 -- one for a seat that has given its counts
@@ -20,8 +20,8 @@ above_of None = 0
 above_of (Some counts) = counts.above
 
 -- how many of the seats have given their counts, and the sums of these
-abbrev pub tally_of : List Record → Tally
-tally_of seats = record {
+abbrev pub totals_of : List Record → Totals
+totals_of seats = record {
   given = sum_by (λ seat. given_of seat.given) seats;
   below = sum_by (λ seat. below_of seat.given) seats;
   above = sum_by (λ seat. above_of seat.given) seats;
@@ -31,16 +31,17 @@ tally_of seats = record {
 abbrev pub capped : ℕ → ℕ
 capped n = min n (2 ^ 32 - 1)
 
-abbrev pub capped_tally : List Record → Tally
-capped_tally seats = record {
-  given = capped (tally_of seats).given;
-  below = capped (tally_of seats).below;
-  above = capped (tally_of seats).above;
+-- what records add up to, each number capped
+abbrev pub capped_totals : List Record → Totals
+capped_totals seats = record {
+  given = capped (totals_of seats).given;
+  below = capped (totals_of seats).below;
+  above = capped (totals_of seats).above;
 }
 
--- two tallies added
-abbrev pub both : Tally → Tally → Tally
-both one other = record {
+-- two totals added, each number capped
+abbrev pub added : Totals → Totals → Totals
+added one other = record {
   given = capped (one.given + other.given);
   below = capped (one.below + other.below);
   above = capped (one.above + other.above);
