@@ -10,8 +10,10 @@ use referees::verdict::GroupVerdict;
 
 /// Some records, as many in every value of the type, each told by its number, from 0 on.
 pub trait Records {
+    /// The records as one list, by their numbers.
     ghost seats: { Self → List Record };
 
+    /// How many there are.
     ghost COUNT: { ℕ };
 
     /// The record of that number, or none where there are not so many.

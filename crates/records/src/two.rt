@@ -1,3 +1,5 @@
+use crate::record::Record;
+
 /// Two halves of some records: those of even numbers and those of odd ones.
 #[derive(Clone, Copy, Debug, PartialEq, Eq)]
 pub struct Two<R> {
@@ -6,4 +8,4 @@ pub struct Two<R> {
 }
 
 /// Sixteen records as nested pairs.
-pub type Sixteen = Two<Two<Two<Two<crate::record::Record>>>>;
+pub type Sixteen = Two<Two<Two<Two<Record>>>>;

@@ -11,7 +11,7 @@ use Rattle.referees.specs.declared.verdict.GroupVerdict.TheVariants.{Lower, High
 use Rattle.weighings.specs.Counting.{below, above, HasCounts, weighed}
 use Rattle.weighings.specs.Exchanges.{AllPossible, verdict_on, all_known_after, Turn, turn, verdicts, GroupReport, group_reports, ExplainAll}
 use Rattle.weighings.specs.Exchanges.{Finishes, done as finishes_done, lower as finishes_lower, higher as finishes_higher}
-use Rattle.weighings.specs.Laws.{AtMostLog, EveryFinishedIsRun}
+use Rattle.weighings.specs.Laws.{AtMostLogPlusOne, EveryFinishedIsRun}
 use Rattle.weighings.specs.Ranges.{target, from_after, to_after}
 use Rattle.weighings.specs.Runs.{Run, done, lower, higher}
 use Rattle.weighings.specs.Seats.{unheard, known_after, Round, round, EachPossible, NeverEmpty, reports}
@@ -162,7 +162,7 @@ module _ {E : Type 0} {before : E → E → Bool} (place : E → ℕ) (order : I
       Finishes k (sum declared) lo hi (map unheard declared) turns m → NeverEmpty lo hi (first_rounds turns) →
       (lists : List (List E)) → ExplainAll place lo hi declared (group_reports lo hi turns) lists →
       Run (weighed place k lists) lo hi (verdicts turns) m × ((x : E) × (place x ≡ m) × Ranked before k (joint lists) x)
-      × AtMostLog (hi - lo + 1) (length turns)
+      × AtMostLogPlusOne (hi - lo + 1) (length turns)
   explained_run lo hi k declared one most turns m f n lists e =
       let size = declared_sum place declared lists e.lengths in
       let run = run_of place k (sum declared) lists size f n e.shows in
@@ -171,7 +171,7 @@ module _ {E : Type 0} {before : E → E → Bool} (place : E → ℕ) (order : I
       let finds = weighing_finds place order agrees lists lo hi k x.0 e.within x.1 in (
         run,
         (x.0, sym (finds.ends_there (verdicts turns) m run), x.1),
-        subst (AtMostLog (hi - lo + 1)) (length_verdicts turns) (finds.few (verdicts turns) m run),
+        subst (AtMostLogPlusOne (hi - lo + 1)) (length_verdicts turns) (finds.few (verdicts turns) m run),
       )
 
   -- the law, for a type whose places are all numbers from lowest to highest, one to an element

@@ -2,7 +2,7 @@
 use Rattle.std.proofs.Common.{◌≡◌, ℕ, zero, suc, ◌+◌, ◌^◌, ◌<◌, ◌≤◌, inl, inr, arith}
 use Rattle.std.proofs.lemmas.Bool.{cases_lt}
 use Rattle.ranks.proofs.Powers.{less_than_power}
-use Rattle.weighings.specs.Laws.{IsFloorLog2, AtMostLog}
+use Rattle.weighings.specs.Laws.{IsFloorLog2, AtMostLogPlusOne}
 
 -- a number from 1 on that is smaller than a power of two has a logarithm
 log_below : (w j : ℕ) → 1 ≤ w → w < 2 ^ j → (i : ℕ) × IsFloorLog2 w i
@@ -14,5 +14,5 @@ log_below w (suc j) one h =
     ]
 
 -- what is at most every j where w is smaller than 2 ^ j is at most one more than the logarithm of w
-pub at_most_log : (w n : ℕ) → 1 ≤ w → ((j : ℕ) → w < 2 ^ j → n ≤ j) → AtMostLog w n
-at_most_log w n one few = record { logarithm = log_below w w one (less_than_power w); at_most = λ j h. few (j + 1) h.1 }
+pub at_most_log_plus_one : (w n : ℕ) → 1 ≤ w → ((j : ℕ) → w < 2 ^ j → n ≤ j) → AtMostLogPlusOne w n
+at_most_log_plus_one w n one few = record { logarithm = log_below w w one (less_than_power w); at_most = λ j h. few (j + 1) h.1 }

@@ -14,7 +14,7 @@ use Rattle.weighings.specs.Counting.{below, above, weighed, told_by}
 use Rattle.weighings.specs.Laws.{WeighingFindsRank}
 use Rattle.weighings.specs.Ranges.{target}
 use Rattle.weighings.specs.Runs.{Run, done, lower, higher}
-use Rattle.weighings.proofs.Logarithms.{at_most_log}
+use Rattle.weighings.proofs.Logarithms.{at_most_log_plus_one}
 use Rattle.weighings.proofs.Verdicts.{weight_lower, weight_higher, weight_done, told_lower, told_higher, told_done}
 use Rattle.weighings.proofs.Places.{counted_places, sum_counts, sum_lengths, all_joint}
 
@@ -102,7 +102,7 @@ module _ {E : Type 0} {before : E → E → Bool} (place : E → ℕ) (order : I
         some_run = (some.0, same_run alone referee (λ m. sym (agree m)) some.1);
         ends_there = λ verdicts m run. (one_run alone (same_run referee alone agree run) some.1).1;
         few = λ verdicts m run.
-            at_most_log size (length verdicts) (omega arith) (λ j h.
+            at_most_log_plus_one size (length verdicts) (omega arith) (λ j h.
             let short = closes (place x) j lo hi inside.0 inside.1 h in
             rw (one_run alone (same_run referee alone agree run) short.1).0 short.2);
         rebuilt = λ verdicts m run. same_run referee alone agree run;

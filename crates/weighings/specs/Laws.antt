@@ -17,7 +17,7 @@ abbrev pub IsFloorLog2 : (w j : ℕ) → Type 0
 IsFloorLog2 w j = (2 ^ j ≤ w) × (w < 2 ^ (j + 1))
 
 -- n is at most one more than that logarithm, of which there is one
-pub record AtMostLog (w n : ℕ) : Type 0 where
+pub record AtMostLogPlusOne (w n : ℕ) : Type 0 where
   pub logarithm : (j : ℕ) × IsFloorLog2 w j
   pub at_most : (j : ℕ) → IsFloorLog2 w j → n ≤ j + 1
 
@@ -28,7 +28,7 @@ module _ {E : Type 0} (before : E → E → Bool) (place : E → ℕ) where
   pub record FindsRank (lists : List (List E)) (lo hi k : ℕ) (x : E) : Type 0 where
     pub some_run : (verdicts : List GroupVerdict) × Run (weighed place k lists) lo hi verdicts (place x)
     pub ends_there : (verdicts : List GroupVerdict) (m : ℕ) → Run (weighed place k lists) lo hi verdicts m → m ≡ place x
-    pub few : (verdicts : List GroupVerdict) (m : ℕ) → Run (weighed place k lists) lo hi verdicts m → AtMostLog (hi - lo + 1) (length verdicts)
+    pub few : (verdicts : List GroupVerdict) (m : ℕ) → Run (weighed place k lists) lo hi verdicts m → AtMostLogPlusOne (hi - lo + 1) (length verdicts)
     pub rebuilt : (verdicts : List GroupVerdict) (m : ℕ) → Run (weighed place k lists) lo hi verdicts m → Run (told_by (place x)) lo hi verdicts m
 
   abbrev pub WeighingFindsRank : Type 0
@@ -93,7 +93,7 @@ pub record FinishedIsRun {E : Type 0} (before : E → E → Bool) (place : E →
       Run (weighed place k lists) lo hi (verdicts turns) m
   pub result : (lists : List (List E)) → ExplainAll place lo hi declared (group_reports lo hi turns) lists →
       (x : E) × (place x ≡ m) × Ranked before k (joint lists) x
-  pub few : AtMostLog (hi - lo + 1) (length turns)
+  pub few : AtMostLogPlusOne (hi - lo + 1) (length turns)
 
 abbrev pub EveryFinishedIsRun : {E : Type 0} → (E → E → Bool) → (E → ℕ) → (lowest highest : ℕ) → Type 0
 EveryFinishedIsRun before place lowest highest =
