@@ -1,6 +1,6 @@
 -- Consistent reports: when one more is consistent with them, and what is left without the newest.
 use Rattle.std.proofs.Common.{◌≡◌, ℕ, ◌<◌, ◌≤◌, Bool, false, List, [], ◌∷◌, sym, refl, subst, inl, inr, arith}
-use Rattle.std.specs.List.{AllByRecursion as All}
+use Rattle.std.specs.List.{AllByRecursion as Each}
 use Rattle.std.proofs.ByRecursion.{All-weaker}
 use Rattle.std.proofs.lemmas.Bool.{cases_lt}
 use Rattle.elements.specs.Orders.{IsOrder}
@@ -14,13 +14,13 @@ use Rattle.bisections.specs.declared.side.Side.{Side}
 use Rattle.bisections.proofs.Orders.{entry_order}
 
 -- what follows from two facts of an element holds of all elements, if both do
-all_from_two : {X : Type 0} (P Q R : X → Type 0) → ((x : X) → P x → Q x → R x) → (xs : List X) → All P xs → All Q xs → All R xs
+all_from_two : {X : Type 0} (P Q R : X → Type 0) → ((x : X) → P x → Q x → R x) → (xs : List X) → Each P xs → Each Q xs → Each R xs
 all_from_two P Q R f [] p q = tt
 all_from_two P Q R f (x ∷ xs) p q = (f x p.0 q.0, all_from_two P Q R f xs p.1 q.1)
 
 module _ {E : Type 0} where
   -- what holds of all reports holds of one among them
-  pub reported_all : (P : Report E → Type 0) (reports : List (Report E)) → All P reports →
+  pub reported_all : (P : Report E → Type 0) (reports : List (Report E)) → Each P reports →
       (r : Report E) → ReportedAt r.place r.entry reports → P r
   reported_all P [] a r i = absurd i
   reported_all P (s ∷ reports) a r i =
@@ -33,7 +33,7 @@ module _ {E : Type 0} where
 
   -- what holds of each report among them holds of all
   pub all_reported : (P : Report E → Type 0) (reports : List (Report E)) →
-      ((r : Report E) → ReportedAt r.place r.entry reports → P r) → All P reports
+      ((r : Report E) → ReportedAt r.place r.entry reports → P r) → Each P reports
   all_reported P [] f = tt
   all_reported P (s ∷ reports) f = (f s (inl (refl, refl)), all_reported P reports (λ r i. f r (inr i)))
 
@@ -59,18 +59,18 @@ module _ {E : Type 0} (before : E → E → Bool) where
   module _ (side : Side) (k d : ℕ) (reports : List (Report E)) (r : Report E) where
     -- a report of its place's sort that agrees with consistent ones is consistent with them
     pub report_added : Consistent before side k d reports → 1 ≤ r.place → sort_of r.entry ≡ sort_at side k d r.place →
-        All (Agree r) reports → Consistent before side k d (r ∷ reports)
+        Each (Agree r) reports → Consistent before side k d (r ∷ reports)
     report_added c one sort agree = record {
       from_1 = (one, c.from_1);
       sorts = (sort, c.sorts);
       rise = (
         (λ l. absurd (omega arith), All-weaker (Agree r) (Rises before r) (λ s a. a.not_after) reports agree),
-        all_from_two (Agree r) (λ s. All (Rises before s) reports) (λ s. All (Rises before s) (r ∷ reports))
+        all_from_two (Agree r) (λ s. Each (Rises before s) reports) (λ s. Each (Rises before s) (r ∷ reports))
             (λ s a h. (a.not_before, h)) reports agree c.rise,
       );
       same = (
         (λ e. refl, All-weaker (Agree r) (Same r) (λ s a e. sym (a.same (sym e))) reports agree),
-        all_from_two (Agree r) (λ s. All (Same s) reports) (λ s. All (Same s) (r ∷ reports))
+        all_from_two (Agree r) (λ s. Each (Same s) reports) (λ s. Each (Same s) (r ∷ reports))
             (λ s a h. (a.same, h)) reports agree c.same,
       );
     }
@@ -81,19 +81,19 @@ module _ {E : Type 0} (before : E → E → Bool) where
       from_1 = c.from_1.1;
       sorts = c.sorts.1;
       rise =
-          All-weaker (λ s. All (Rises before s) (r ∷ reports)) (λ s. All (Rises before s) reports)
+          All-weaker (λ s. Each (Rises before s) (r ∷ reports)) (λ s. Each (Rises before s) reports)
           (λ s h. h.1) reports c.rise.1;
       same =
-          All-weaker (λ s. All (Same s) (r ∷ reports)) (λ s. All (Same s) reports)
+          All-weaker (λ s. Each (Same s) (r ∷ reports)) (λ s. Each (Same s) reports)
           (λ s h. h.1) reports c.same.1;
     }
 
     -- the newest of consistent reports agrees with all others
-    pub newest_agrees : Consistent before side k d (r ∷ reports) → All (Agree r) reports
+    pub newest_agrees : Consistent before side k d (r ∷ reports) → Each (Agree r) reports
     newest_agrees c =
         all_reported (Agree r) reports
         (λ s i.
-        let rises = reported_all (λ s. All (Rises before s) (r ∷ reports)) reports c.rise.1 s i in
+        let rises = reported_all (λ s. Each (Rises before s) (r ∷ reports)) reports c.rise.1 s i in
         record {
           not_before = rises.0;
           not_after = reported_all (Rises before r) reports c.rise.0.1 s i;
@@ -107,10 +107,10 @@ pub reports_never_fall : {E : Type 0} {before : E → E → Bool} (o : IsOrder b
 reports_never_fall {E} {before} o side k d reports c r s i j h =
     elim (cases_lt r.place s.place) [
       | inl t ↦
-          let rises = reported_all (λ r. All (Rises before r) reports) reports c.rise r i in
+          let rises = reported_all (λ r. Each (Rises before r) reports) reports c.rise r i in
           reported_all (Rises before r) reports rises s j t
       | inr t ↦
-          let at = reported_all (λ r. All (Same r) reports) reports c.same r i in
+          let at = reported_all (λ r. Each (Same r) reports) reports c.same r i in
           let e = reported_all (Same r) reports at s j (omega arith) in
           rw e (irreflexive (entry_order o) s.entry)
     ]

@@ -1,7 +1,7 @@
 -- Reports are consistent exactly if some list explains them.
 use Rattle.std.proofs.Common.{◌≡◌, ℕ, ◌+◌, ◌-◌, ◌<◌, ◌≤◌, min, Bool, false, List, [], ◌∷◌, length, get_or, replicate, sym, refl, ap, ◌∙◌, subst, inl, inr, arith}
 use lib.ListN.{length-replicate, get_or-replicate}
-use Rattle.std.specs.List.{AllByRecursion as All}
+use Rattle.std.specs.List.{AllByRecursion as Each}
 use Rattle.std.proofs.lemmas.Bool.{cases_order, cond-false}
 use Rattle.elements.specs.Orders.{IsOrder}
 use Rattle.elements.specs.declared.entry.Entry.{Entry}
@@ -90,7 +90,7 @@ module _ {E : Type 0} {before : E → E → Bool} (o : IsOrder before) (side : S
           let i = r.place - lows - 1 in
           let ys = clamp before v i xs in
           let len : length xs ≡ d = w.1.declared in
-          let with_entry = λ (e : Entry E). All (Agree before (record { place = r.place; entry = e })) reports in
+          let with_entry = λ (e : Entry E). Each (Agree before (record { place = r.place; entry = e })) reports in
           let agree = subst with_entry t (newest_agrees before side k d reports r c) in (
             ys,
             record {
@@ -113,7 +113,7 @@ module _ {E : Type 0} {before : E → E → Bool} (o : IsOrder before) (side : S
           shown_too w (row_above n lows k w.0 r.place (r.place - lows - 1) (omega arith) (omega arith) ∙ sym t)
 
   -- reports that a list explains are consistent
-  pub explained_consistent : (reports : List (Report E)) → All (λ r. 1 ≤ r.place) reports → (xs : List E) → Explains before side k d reports xs →
+  pub explained_consistent : (reports : List (Report E)) → Each (λ r. 1 ≤ r.place) reports → (xs : List E) → Explains before side k d reports xs →
       Consistent before side k d reports
   explained_consistent reports pos xs x =
       let entry = entry_at (row side k xs) in
@@ -126,11 +126,11 @@ module _ {E : Type 0} {before : E → E → Bool} (o : IsOrder before) (side : S
             all_reported (λ r. sort_of r.entry ≡ sort_at side k d r.place) reports
             (λ r i. rw (← (shown r i)) (row_sort n lows k d xs x.declared r.place (from_1 r i)));
         rise =
-            all_reported (λ r. All (Rises before r) reports) reports
+            all_reported (λ r. Each (Rises before r) reports) reports
             (λ r i. all_reported (Rises before r) reports
             (λ s j h. rw (← (shown r i), ← (shown s j)) (row_never_falls n lows k xs before x.in_order r.place s.place (from_1 r i) (omega arith))));
         same =
-            all_reported (λ r. All (Same r) reports) reports
+            all_reported (λ r. Each (Same r) reports) reports
             (λ r i. all_reported (Same r) reports (λ s j e. sym (shown r i) ∙ ap entry e ∙ shown s j));
       }
 

@@ -1,7 +1,7 @@
 -- A finished exchange, whoever gives the reports, is the bisection over every two lists that explain it.
 use Rattle.std.proofs.Common.{◌≡◌, ℕ, ◌+◌, ◌^◌, ◌≤◌, Bool, List, ◌∷◌, length, sym, refl, ap, ap₂, ◌∙◌, arith, pow_pos}
 use mathlib.Core.List.{reverse_aux}
-use Rattle.std.specs.List.{AllByRecursion as All}
+use Rattle.std.specs.List.{AllByRecursion as Each}
 use Rattle.elements.specs.Orders.{IsOrder}
 use Rattle.elements.specs.Entries.{lesser_entry}
 use Rattle.elements.specs.declared.entry.Entry.{Entry}
@@ -49,7 +49,7 @@ module _ {E : Type 0} (before : E → E → Bool) (k : ℕ) (lists : Side → Li
   -- over lists whose rows show the reports of an exchange, the bisection reaches the windows of the exchange
   exchange_reached : {declared offsets : OfSides} {j : ℕ} {reports : Side → List (Report E)} {vs : List PairVerdict} →
       Exchange before k declared offsets j reports vs →
-      ((side : Side) → All (λ r. entry_at (row side k (lists side)) r.place ≡ r.entry) (reports side)) → Reaches offsets j vs
+      ((side : Side) → Each (λ r. entry_at (row side k (lists side)) r.place ≡ r.entry) (reports side)) → Reaches offsets j vs
   exchange_reached opened shown = record { verdicts_are = refl; ends_alike = λ side. refl }
   exchange_reached (compared {offsets = offsets} {j = j} {verdicts = vs} entries x a) shown =
       let f = exchange_reached x (λ side. (shown side).1) in

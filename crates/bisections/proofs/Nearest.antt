@@ -1,6 +1,6 @@
 -- The rules for a new report look at the nearest places only, and decide whether it is consistent with all reports.
 use Rattle.std.proofs.Common.{◌≡◌, ℕ, ◌-◌, ◌<◌, ◌≤◌, Bool, false, ◌⊎◌, List, [], ◌∷◌, refl, inl, inr, arith}
-use Rattle.std.specs.List.{AllByRecursion as All}
+use Rattle.std.specs.List.{AllByRecursion as Each}
 use Rattle.std.proofs.ByRecursion.{All-weaker}
 use Rattle.std.proofs.lemmas.Bool.{cases_lt}
 use Rattle.elements.specs.Orders.{IsOrder}
@@ -15,8 +15,8 @@ use Rattle.bisections.proofs.Orders.{entry_order}
 
 -- by any measure of places: it is 0 at all reports, or among those where it is not, it is least at one
 least_by : {E : Type 0} (away : ℕ → ℕ) (reports : List (Report E)) →
-    All (λ r. away r.place ≡ 0) reports
-    ⊎ ((r : Report E) × ReportedAt r.place r.entry reports × (0 < away r.place) × All (λ s. 0 < away s.place → away r.place ≤ away s.place) reports)
+    Each (λ r. away r.place ≡ 0) reports
+    ⊎ ((r : Report E) × ReportedAt r.place r.entry reports × (0 < away r.place) × Each (λ s. 0 < away s.place → away r.place ≤ away s.place) reports)
 least_by away [] = inl tt
 least_by {E} away (r ∷ reports) =
     let From = λ (t s : Report E). 0 < away s.place → away t.place ≤ away s.place in
@@ -38,7 +38,7 @@ least_by {E} away (r ∷ reports) =
 
 module _ {E : Type 0} (place : ℕ) (reports : List (Report E)) where
   -- no report is at a lower place, or one is at the nearest lower place
-  some_nearest_lower : All (λ r. place ≤ r.place) reports ⊎ ((r : Report E) × ReportedAt r.place r.entry reports × NearestLower reports place r)
+  some_nearest_lower : Each (λ r. place ≤ r.place) reports ⊎ ((r : Report E) × ReportedAt r.place r.entry reports × NearestLower reports place r)
   some_nearest_lower =
       elim (least_by (λ q. place - q) reports) [
         | inl a ↦ inl (All-weaker (λ s. place - s.place ≡ 0) (λ s. place ≤ s.place) (λ s h. omega arith) reports a)
@@ -57,7 +57,7 @@ module _ {E : Type 0} (place : ℕ) (reports : List (Report E)) where
       ]
 
   -- no report is at a higher place, or one is at the nearest higher place
-  some_nearest_higher : All (λ r. r.place ≤ place) reports ⊎ ((r : Report E) × ReportedAt r.place r.entry reports × NearestHigher reports place r)
+  some_nearest_higher : Each (λ r. r.place ≤ place) reports ⊎ ((r : Report E) × ReportedAt r.place r.entry reports × NearestHigher reports place r)
   some_nearest_higher =
       elim (least_by (λ q. q - place) reports) [
         | inl a ↦ inl (All-weaker (λ s. s.place - place ≡ 0) (λ s. s.place ≤ place) (λ s h. omega arith) reports a)

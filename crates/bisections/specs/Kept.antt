@@ -1,6 +1,6 @@
 -- The two entries kept for a window, and the test of a new report against them.
 use Rattle.std.specs.Prelude.{◌≡◌, ℕ, ◌+◌, ◌<◌, ◌≤◌, Bool, true, false, cond, not, ◌&&◌, ◌⊎◌, List, [], ◌∷◌, ◌==◌, nat_lt}
-use Rattle.std.specs.List.{AllByRecursion as All}
+use Rattle.std.specs.List.{AllByRecursion as Each}
 use Rattle.elements.specs.Entries.{entry_before}
 use Rattle.elements.specs.declared.entry.Entry.{Entry}
 use Rattle.elements.specs.declared.entry.Entry.TheVariants.{Below, Above}
@@ -38,7 +38,7 @@ module _ {E : Type 0} where
   -- These are the bounds of a window in a row of n entries. No place inside it was reported, and none past its end unless
   -- the end was; low is the entry reported at its offset and high the one at its end, or marks at the ends of the row.
   pub record Bound (n offset size : ℕ) (bounds : Bounds E) (reports : List (Report E)) : Type 0 where
-    pub outside : All (λ r. (r.place ≤ offset) ⊎ ((offset + size ≤ r.place) × (offset + size < n))) reports
+    pub outside : Each (λ r. (r.place ≤ offset) ⊎ ((offset + size ≤ r.place) × (offset + size < n))) reports
     pub low_reported : 0 < offset → ReportedAt offset bounds.low reports
     pub low_mark : offset ≡ 0 → bounds.low ≡ Below
     pub high_reported : offset + size < n → ReportedAt (offset + size) bounds.high reports

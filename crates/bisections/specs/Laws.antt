@@ -1,6 +1,6 @@
 -- What holds of a pair's exchange, in every order.
 use Rattle.std.specs.Prelude.{◌≡◌, ℕ, ◌+◌, ◌^◌, ◌<◌, ◌≤◌, Bool, true, List, [], ◌∷◌, length, reverse, ◌≢◌, slice_index_or}
-use Rattle.std.specs.List.{AllByRecursion as All}
+use Rattle.std.specs.List.{AllByRecursion as Each}
 use Rattle.elements.specs.Orders.{NeverFalls}
 use Rattle.elements.specs.declared.entry.Entry.{Entry}
 use Rattle.elements.specs.declared.entry.Entry.TheVariants.{Element}
@@ -55,7 +55,7 @@ SeatsRebuild {E} before =
 pub record ExplainedIfConsistent {E : Type 0} (before : E → E → Bool) : Type 0 where
   pub explained : (side : Side) (k d : ℕ) (reports : List (Report E)) → Consistent before side k d reports →
       (xs : List E) × Explains before side k d reports xs
-  pub consistent : (side : Side) (k d : ℕ) (reports : List (Report E)) → All (λ r. 1 ≤ r.place) reports →
+  pub consistent : (side : Side) (k d : ℕ) (reports : List (Report E)) → Each (λ r. 1 ≤ r.place) reports →
       (xs : List E) → Explains before side k d reports xs → Consistent before side k d reports
 
 -- after consistent reports, the three rules for a new one, which look at the nearest places only, pass it exactly if it is

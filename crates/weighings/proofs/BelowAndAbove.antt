@@ -1,6 +1,6 @@
 -- How many places of a list are below a place, and how many above it.
 use Rattle.std.proofs.Common.{◌≡◌, ℕ, ◌+◌, ◌-◌, ◌<◌, ◌≤◌, true, false, not, List, length, nat_lt, arith}
-use Rattle.std.specs.List.{AllByRecursion as All}
+use Rattle.std.specs.List.{AllByRecursion as Each}
 use Rattle.std.proofs.ByRecursion.{All-weaker}
 use Rattle.std.proofs.lemmas.Bool.{lt-ltb, le-ltb}
 use Rattle.std.proofs.lemmas.Bool.Decides.{nat_tests}
@@ -9,19 +9,19 @@ use Rattle.weighings.specs.Counting.{below, above}
 
 module _ (m : ℕ) (xs : List ℕ) where
   -- where all are below m, as many are below it as there are
-  pub below_all : All (λ y. y < m) xs → below m xs ≡ length xs
+  pub below_all : Each (λ y. y < m) xs → below m xs ≡ length xs
   below_all a = count_all (λ y. nat_lt y m) xs (All-weaker (λ y. y < m) (λ y. nat_lt y m ≡ true) (λ y h. lt-ltb y m h) xs a)
 
   -- where all are from m on, none is below it
-  pub below_none : All (λ y. m ≤ y) xs → below m xs ≡ 0
+  pub below_none : Each (λ y. m ≤ y) xs → below m xs ≡ 0
   below_none a = count_none (λ y. nat_lt y m) xs (All-weaker (λ y. m ≤ y) (λ y. nat_lt y m ≡ false) (λ y h. le-ltb y m h) xs a)
 
   -- where all are above m, as many are above it as there are
-  pub above_all : All (λ y. m < y) xs → above m xs ≡ length xs
+  pub above_all : Each (λ y. m < y) xs → above m xs ≡ length xs
   above_all a = count_all (λ y. nat_lt m y) xs (All-weaker (λ y. m < y) (λ y. nat_lt m y ≡ true) (λ y h. lt-ltb m y h) xs a)
 
   -- where all are up to m, none is above it
-  pub above_none : All (λ y. y ≤ m) xs → above m xs ≡ 0
+  pub above_none : Each (λ y. y ≤ m) xs → above m xs ≡ 0
   above_none a = count_none (λ y. nat_lt m y) xs (All-weaker (λ y. y ≤ m) (λ y. nat_lt m y ≡ false) (λ y h. le-ltb m y h) xs a)
 
   -- every place is below m or above the one before it

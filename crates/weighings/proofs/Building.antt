@@ -1,6 +1,6 @@
 -- A list of places for a seat's counts, wherever they were possible in every round.
 use Rattle.std.proofs.Common.{◌≡◌, ℕ, zero, suc, ◌+◌, ◌-◌, ◌<◌, ◌≤◌, nat_lt, List, [], ◌∷◌, ◌++◌, length, replicate, ap, subst, inl, inr, arith, length-append}
-use Rattle.std.specs.List.{AllByRecursion as All}
+use Rattle.std.specs.List.{AllByRecursion as Each}
 use Rattle.std.proofs.ByRecursion.{All-append, All-weaker}
 use Rattle.std.proofs.lemmas.Bool.{cases_eq}
 use Rattle.std.proofs.lemmas.List.{length-replicate}
@@ -20,15 +20,15 @@ Between a b y = (a ≤ y) × (y ≤ b)
 
 -- places have the reported counts, where besides them so many stand below all targets, and so many above
 abbrev pub ShowsBesides : (low high : ℕ) → List ℕ → List Report → Type 0
-ShowsBesides low high ys told = All (λ r. (below r.target ys + low ≡ r.counts.below) × (above r.target ys + high ≡ r.counts.above)) told
+ShowsBesides low high ys told = Each (λ r. (below r.target ys + low ≡ r.counts.below) × (above r.target ys + high ≡ r.counts.above)) told
 
 -- where none stand besides, that is to say they have the reported counts
-pub shows_alone : (ys : List ℕ) (told : List Report) → ShowsBesides 0 0 ys told → All (λ r. HasCounts r.target ys r.counts) told
+pub shows_alone : (ys : List ℕ) (told : List Report) → ShowsBesides 0 0 ys told → Each (λ r. HasCounts r.target ys r.counts) told
 shows_alone ys [] s = tt
 shows_alone ys (r ∷ told) s = ((omega (arith, s.0.0), omega (arith, s.0.1)), shows_alone ys told s.1)
 
 -- the targets of rounds from a range on lie in it
-targets_between : (a b : ℕ) (rounds : List Round) → NeverEmpty a b rounds → All (λ r. Between a b r.target) (reports a b rounds)
+targets_between : (a b : ℕ) (rounds : List Round) → NeverEmpty a b rounds → Each (λ r. Between a b r.target) (reports a b rounds)
 targets_between a b [] n = tt
 targets_between a b (round counts Lower ∷ later) n =
     let h : a ≤ b = n.0 in
@@ -48,7 +48,7 @@ targets_between a b (round counts Done ∷ later) n =
 
 module _ (low high a b : ℕ) (ys zs : List ℕ) where
   -- places above the range may be taken into the list
-  take_above : All (λ z. b < z) zs → (told : List Report) → All (λ r. Between a b r.target) told →
+  take_above : Each (λ z. b < z) zs → (told : List Report) → Each (λ r. Between a b r.target) told →
       ShowsBesides low (high + length zs) ys told → ShowsBesides low high (ys ++ zs) told
   take_above over [] t s = tt
   take_above over (r ∷ told) t s =
@@ -64,7 +64,7 @@ module _ (low high a b : ℕ) (ys zs : List ℕ) where
       )
 
   -- and so may places below it
-  take_below : All (λ z. z < a) zs → (told : List Report) → All (λ r. Between a b r.target) told →
+  take_below : Each (λ z. z < a) zs → (told : List Report) → Each (λ r. Between a b r.target) told →
       ShowsBesides (low + length zs) high ys told → ShowsBesides low high (zs ++ ys) told
   take_below under [] t s = tt
   take_below under (r ∷ told) t s =
@@ -80,7 +80,7 @@ module _ (low high a b : ℕ) (ys zs : List ℕ) where
       )
 
 -- what holds of an element, if there are copies of it at all, holds of each
-all_copies : {X : Type 0} (P : X → Type 0) (n : ℕ) (x : X) → (0 < n → P x) → All P (replicate n x)
+all_copies : {X : Type 0} (P : X → Type 0) (n : ℕ) (x : X) → (0 < n → P x) → Each P (replicate n x)
 all_copies P zero x h = tt
 all_copies P (suc n) x h = (h (omega arith), all_copies P n x (λ _. h (omega arith)))
 
@@ -94,10 +94,10 @@ module _ (m n : ℕ) (us vs : List ℕ) where
   length_parts = omega (arith, length-append us (replicate n m ++ vs), length-append (replicate n m) vs, length-replicate n m)
 
   -- what holds of the parts holds of all
-  all_parts : (P : ℕ → Type 0) → All P us → P m → All P vs → All P parts
+  all_parts : (P : ℕ → Type 0) → Each P us → P m → Each P vs → Each P parts
   all_parts P u h v = All-append P us (replicate n m ++ vs) u (All-append P (replicate n m) vs (all_copies P n m (λ _. h)) v)
 
-  module _ (u : All (λ y. y < m) us) (v : All (λ y. m < y) vs) where
+  module _ (u : Each (λ y. y < m) us) (v : Each (λ y. m < y) vs) where
     -- where the first are below m and the last above it, those below it are the first
     below_parts : below m parts ≡ length us
     below_parts =
@@ -125,18 +125,18 @@ module _ (m n : ℕ) (us vs : List ℕ) where
 -- places from a to b fill up what is known of a seat to its declared length, and have the counts of its rounds
 pub record Fills (a b : ℕ) (seat : Known) (rounds : List Round) (ys : List ℕ) : Type 0 where
   pub all : seat.low + seat.high + length ys ≡ seat.declared
-  pub within : All (Between a b) ys
+  pub within : Each (Between a b) ys
   pub shows : ShowsBesides seat.low seat.high ys (reports a b rounds)
 
 module _ (a b : ℕ) (order : a ≤ b) (seat : Known) (counts : Counts) (p : Possible a b seat counts) where
   -- so many copies of a as are not known to be below the range: they are below the target, as the rule for that edge says
-  news_below : All (λ y. (a ≤ y) × (y < target a b)) (replicate (counts.below - seat.low) a)
+  news_below : Each (λ y. (a ≤ y) × (y < target a b)) (replicate (counts.below - seat.low) a)
   news_below =
       all_copies (λ y. (a ≤ y) × (y < target a b)) (counts.below - seat.low) a
       (λ h. elim (cases_eq (target a b) a) [ inl e ↦ absurd (omega (arith, p.edge_a e)) | inr e ↦ (omega arith, omega (arith, e)) ])
 
   -- so many copies of b as are not known to be above the range: they are above the target, as the rule for that edge says
-  news_above : All (λ y. (target a b < y) × (y ≤ b)) (replicate (counts.above - seat.high) b)
+  news_above : Each (λ y. (target a b < y) × (y ≤ b)) (replicate (counts.above - seat.high) b)
   news_above =
       all_copies (λ y. (target a b < y) × (y ≤ b)) (counts.above - seat.high) b
       (λ h. elim (cases_eq (target a b) b) [ inl e ↦ absurd (omega (arith, p.edge_b e)) | inr e ↦ (omega (arith, e), omega arith) ])
@@ -148,7 +148,7 @@ module _ (a b : ℕ) (order : a ≤ b) (seat : Known) (counts : Counts) (p : Pos
   -- places below and above the target that fill up the seat's counts fill the round, once those at the target join them,
   -- if all together have the counts of the later rounds
   fills_round : (us vs : List ℕ) → length us + seat.low ≡ counts.below → length vs + seat.high ≡ counts.above →
-      All (λ y. (a ≤ y) × (y < target a b)) us → All (λ y. (target a b < y) × (y ≤ b)) vs → (verdict : GroupVerdict) (later : List Round) →
+      Each (λ y. (a ≤ y) × (y < target a b)) us → Each (λ y. (target a b < y) × (y ≤ b)) vs → (verdict : GroupVerdict) (later : List Round) →
       ShowsBesides seat.low seat.high (parts (target a b) at us vs) (reports (from_after verdict a b) (to_after verdict a b) later) →
       Fills a b seat (round counts verdict ∷ later) (parts (target a b) at us vs)
   fills_round us vs few many u v verdict later s =
@@ -200,7 +200,7 @@ build a b seat (round counts Lower ∷ later) n h w =
     let many = length-replicate (counts.above - seat.high) b in
     let v = news_above a b n.0 seat counts p in
     let zs = replicate size m ++ vs in
-    let over : All (λ z. m - 1 < z) zs
+    let over : Each (λ z. m - 1 < z) zs
     = All-append (λ z. m - 1 < z) (replicate size m) vs
     (all_copies (λ z. m - 1 < z) size m (λ _. omega arith))
     (All-weaker (λ z. (m < z) × (z ≤ b)) (λ z. m - 1 < z) (λ z h. omega arith) vs v) in

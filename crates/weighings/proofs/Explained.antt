@@ -1,6 +1,6 @@
 -- A seat's counts are explained by some list exactly if they were possible in every round.
 use Rattle.std.proofs.Common.{◌≡◌, ℕ, ◌+◌, ◌-◌, ◌<◌, ◌≤◌, List, [], ◌∷◌, map, length, sym, ap, ◌∙◌, subst, arith}
-use Rattle.std.specs.List.{AllByRecursion as All}
+use Rattle.std.specs.List.{AllByRecursion as Each}
 use Rattle.std.proofs.ByRecursion.{All-map, All-weaker}
 use Rattle.std.proofs.lemmas.List.{length-map}
 use Rattle.elements.specs.Orders.{OneElementEach}
@@ -33,7 +33,7 @@ module _ (ys : List ℕ) where
       }
 
   -- true counts are possible in every round
-  each_possible : (a b : ℕ) (rounds : List Round) → NeverEmpty a b rounds → All (λ r. HasCounts r.target ys r.counts) (reports a b rounds) →
+  each_possible : (a b : ℕ) (rounds : List Round) → NeverEmpty a b rounds → Each (λ r. HasCounts r.target ys r.counts) (reports a b rounds) →
       EachPossible a b (known_of a b) rounds
   each_possible a b [] n s = tt
   each_possible a b (round counts Lower ∷ later) n s =
@@ -66,8 +66,8 @@ explained_if_possible {E} place lowest highest each =
             xs,
             record {
               declared = omega (arith, length-map xs place, ap length is, all);
-              within = all_places place (Between lo hi) xs (subst (All (Between lo hi)) is r.1.within);
-              shows = subst (λ (l : List ℕ). All (λ r. HasCounts r.target l r.counts) told) is shows;
+              within = all_places place (Between lo hi) xs (subst (Each (Between lo hi)) is r.1.within);
+              shows = subst (λ (l : List ℕ). Each (λ r. HasCounts r.target l r.counts) told) is shows;
             },
           );
       possible = λ lo hi d rounds n xs e.

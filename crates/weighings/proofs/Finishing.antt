@@ -1,6 +1,6 @@
 -- Whoever lies: a finished exchange is the run of all lists that explain it, and there are such lists.
 use Rattle.std.proofs.Common.{◌≡◌, ℕ, ◌+◌, ◌-◌, ◌≤◌, Bool, List, [], ◌∷◌, map, length, sum_by, sym, refl, ap, subst, arith}
-use Rattle.std.specs.List.{AllByRecursion as All, AllZip, sum}
+use Rattle.std.specs.List.{AllByRecursion as Each, AllZip, sum}
 use Rattle.std.proofs.lemmas.List.{length-map}
 use Rattle.std.proofs.lemmas.List.Sums.{sum_by-cons}
 use Rattle.elements.specs.Orders.{IsOrder, PlacesAgree, OneElementEach}
@@ -84,12 +84,12 @@ length_verdicts (turn told v ∷ later) = omega (arith, length_verdicts later)
 module _ {E : Type 0} (place : E → ℕ) where
   -- lists, one a seat, have the reported counts
   abbrev Show : List (List E) → List GroupReport → Type 0
-  Show lists told = All (λ r. AllZip (λ xs counts. HasCounts r.target (map place xs) counts) lists r.told) told
+  Show lists told = Each (λ r. AllZip (λ xs counts. HasCounts r.target (map place xs) counts) lists r.told) told
 
   -- a list for the first seat and lists for the others have the counts of all
   show-cons : (a b : ℕ) (seat : Known) (seats : List Known) (turns : List Turn) → Accepted a b (seat ∷ seats) turns →
       (xs : List E) (lists : List (List E)) →
-      All (λ r. HasCounts r.target (map place xs) r.counts) (reports a b (first_rounds turns)) →
+      Each (λ r. HasCounts r.target (map place xs) r.counts) (reports a b (first_rounds turns)) →
       Show lists (group_reports a b (other_turns turns)) → Show (xs ∷ lists) (group_reports a b turns)
   show-cons a b seat seats [] s xs lists h t = tt
   show-cons a b seat seats (turn [] v ∷ later) s xs lists h t = absurd s.0

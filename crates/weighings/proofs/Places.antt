@@ -1,6 +1,6 @@
 -- Elements by their places: their rank by counting, their counts and sums of these, and elements at given places.
 use Rattle.std.proofs.Common.{◌≡◌, ℕ, ◌≤◌, Bool, not, List, [], ◌∷◌, ◌++◌, map, length, nat_lt, sum_by, sym, refl, ap, ◌∙◌, arith, length-append}
-use Rattle.std.specs.List.{AllByRecursion as All}
+use Rattle.std.specs.List.{AllByRecursion as Each}
 use Rattle.std.proofs.ByRecursion.{All-append}
 use Rattle.std.proofs.lemmas.List.{length-map}
 use Rattle.std.proofs.lemmas.List.Sums.{sum_by-cons}
@@ -20,7 +20,7 @@ counted_places before place agrees k xs x c =
     record { few = omega (arith, few, c.few); many = omega (arith, many, c.many) }
 
 -- what holds of every element of each list holds of every joint one
-pub all_joint : {E : Type 0} (P : E → Type 0) (lists : List (List E)) → All (All P) lists → All P (joint lists)
+pub all_joint : {E : Type 0} (P : E → Type 0) (lists : List (List E)) → Each (Each P) lists → Each P (joint lists)
 all_joint P [] a = tt
 all_joint P (xs ∷ lists) a = All-append P xs (joint lists) a.0 (all_joint P lists a.1)
 
@@ -53,13 +53,13 @@ module _ {E : Type 0} (place : E → ℕ) where
       )
 
   -- what holds of the places holds of the elements
-  pub all_places : (P : ℕ → Type 0) (xs : List E) → All P (map place xs) → All (λ x. P (place x)) xs
+  pub all_places : (P : ℕ → Type 0) (xs : List E) → Each P (map place xs) → Each (λ x. P (place x)) xs
   all_places P [] a = tt
   all_places P (x ∷ xs) a = (a.0, all_places P xs a.1)
 
   -- where there is an element at each place, there are elements at all places of a list
   pub elements_at : (lowest highest : ℕ) → OneElementEach place lowest highest → (lo hi : ℕ) → lowest ≤ lo → hi ≤ highest →
-      (ys : List ℕ) → All (λ y. (lo ≤ y) × (y ≤ hi)) ys → (xs : List E) × (map place xs ≡ ys)
+      (ys : List ℕ) → Each (λ y. (lo ≤ y) × (y ≤ hi)) ys → (xs : List E) × (map place xs ≡ ys)
   elements_at lowest highest each lo hi p q [] a = ([], refl)
   elements_at lowest highest each lo hi p q (y ∷ ys) a =
       let w = a.0 in

@@ -1,6 +1,6 @@
 -- What a seat counts at a target, and what a referee and whoever knows the result say of it.
 use Rattle.std.specs.Prelude.{◌≡◌, ℕ, ◌≤◌, cond, List, map, length, nat_lt}
-use Rattle.std.specs.List.{AllByRecursion as All, sum_by}
+use Rattle.std.specs.List.{AllByRecursion as Each, sum_by}
 use Rattle.ranks.specs.Ranks.{count}
 use Rattle.referees.specs.Verdicts.{weight_of}
 use Rattle.referees.specs.declared.verdict.GroupVerdict.{GroupVerdict}
@@ -21,7 +21,7 @@ HasCounts m places counts = (below m places ≡ counts.below) × (above m places
 module _ {E : Type 0} (place : E → ℕ) where
   -- every element of a list has its place from lo to hi
   abbrev pub Within : (lo hi : ℕ) → List E → Type 0
-  Within lo hi xs = All (λ x. (lo ≤ place x) × (place x ≤ hi)) xs
+  Within lo hi xs = Each (λ x. (lo ≤ place x) × (place x ≤ hi)) xs
 
   -- what a referee says who weighs the true counts of lists, one a seat, at a target
   abbrev pub weighed : (k : ℕ) → List (List E) → ℕ → GroupVerdict

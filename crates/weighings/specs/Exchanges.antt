@@ -1,7 +1,7 @@
 -- Exchanges of a group: seats that report whatever they like, as long as each report is accepted, and the verdicts on the
 -- sums of what they report.
 use Rattle.std.specs.Prelude.{◌≡◌, ℕ, suc, ◌+◌, ◌-◌, List, [], ◌∷◌, map, length}
-use Rattle.std.specs.List.{AllByRecursion as All, AllZip, sum, sum_by}
+use Rattle.std.specs.List.{AllByRecursion as Each, AllZip, sum, sum_by}
 use Rattle.referees.specs.Verdicts.{weight_of}
 use Rattle.referees.specs.declared.verdict.GroupVerdict.{GroupVerdict}
 use Rattle.referees.specs.declared.verdict.GroupVerdict.TheVariants.{Lower, Higher, Done}
@@ -69,5 +69,5 @@ group_reports a b (turn told verdict ∷ later) =
 -- has its seat's counts at each target
 pub record ExplainAll {E : Type 0} (place : E → ℕ) (lo hi : ℕ) (declared : List ℕ) (reports : List GroupReport) (lists : List (List E)) : Type 0 where
   pub lengths : AllZip (λ d xs. length xs ≡ d) declared lists
-  pub within : All (Within place lo hi) lists
-  pub shows : All (λ r. AllZip (λ xs counts. HasCounts r.target (map place xs) counts) lists r.told) reports
+  pub within : Each (Within place lo hi) lists
+  pub shows : Each (λ r. AllZip (λ xs counts. HasCounts r.target (map place xs) counts) lists r.told) reports

@@ -1,6 +1,6 @@
 -- What holds of a group's exchange, for every placed type.
 use Rattle.std.specs.Prelude.{◌≡◌, ℕ, ◌+◌, ◌-◌, ◌*◌, ◌^◌, ◌<◌, ◌≤◌, Bool, true, List, [], ◌∷◌, ◌++◌, map, length}
-use Rattle.std.specs.List.{AllByRecursion as All, sum}
+use Rattle.std.specs.List.{AllByRecursion as Each, sum}
 use Rattle.ranks.specs.Ranks.{joint, Ranked}
 use Rattle.referees.specs.declared.verdict.GroupVerdict.{GroupVerdict}
 use Rattle.referees.specs.declared.verdict.GroupVerdict.TheVariants.{Lower, Higher, Done}
@@ -33,7 +33,7 @@ module _ {E : Type 0} (before : E → E → Bool) (place : E → ℕ) where
 
   abbrev pub WeighingFindsRank : Type 0
   WeighingFindsRank =
-      (lists : List (List E)) (lo hi k : ℕ) (x : E) → All (Within place lo hi) lists → Ranked before k (joint lists) x → FindsRank lists lo hi k x
+      (lists : List (List E)) (lo hi k : ℕ) (x : E) → Each (Within place lo hi) lists → Ranked before k (joint lists) x → FindsRank lists lo hi k x
 
 -- whatever the seats report, as long as it is accepted: the range is never empty and lies in the first one, and each round
 -- halves it at least

@@ -1,6 +1,6 @@
 -- What a group knows of one seat, what the seat may report, and the lists that explain what it reported.
 use Rattle.std.specs.Prelude.{◌≡◌, ℕ, ◌+◌, ◌-◌, ◌≤◌, Bool, true, cond, ◌&&◌, List, [], ◌∷◌, map, length, ◌==◌, nat_le}
-use Rattle.std.specs.List.{AllByRecursion as All}
+use Rattle.std.specs.List.{AllByRecursion as Each}
 use Rattle.referees.specs.declared.verdict.GroupVerdict.{GroupVerdict}
 use Rattle.referees.specs.declared.verdict.GroupVerdict.TheVariants.{Lower, Higher, Done}
 use Rattle.weighings.specs.Counting.{HasCounts, Within}
@@ -72,4 +72,4 @@ reports a b (round counts verdict ∷ later) =
 pub record Explains {E : Type 0} (place : E → ℕ) (lo hi d : ℕ) (told : List Report) (xs : List E) : Type 0 where
   pub declared : length xs ≡ d
   pub within : Within place lo hi xs
-  pub shows : All (λ r. HasCounts r.target (map place xs) r.counts) told
+  pub shows : Each (λ r. HasCounts r.target (map place xs) r.counts) told

@@ -5,7 +5,7 @@ use Rattle.referees.specs.Verdicts.{weight_of}
 use Rattle.referees.specs.declared.verdict.GroupVerdict.{GroupVerdict}
 use Rattle.referees.specs.declared.verdict.GroupVerdict.TheVariants.{Lower, Higher, Done}
 use Rattle.weighings.specs.Counting.{below, above, weighed, told_by}
-use Rattle.weighings.specs.Laws.{Standing, standing_after}
+use Rattle.weighings.specs.Laws.{standing_after}
 use Rattle.weighings.specs.Ranges.{target, from_after, to_after}
 use Rattle.weighings.specs.Runs.{Run}
 use Rattle.weighings.specs.Seats.{Round, round, unheard, keeps_rules}
