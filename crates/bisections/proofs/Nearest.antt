@@ -7,8 +7,10 @@ use Rattle.elements.specs.Orders.{IsOrder}
 use Rattle.elements.specs.Entries.{entry_before}
 use Rattle.elements.proofs.OrderFacts.{le_trans}
 use Rattle.bisections.specs.Kept.{ReportedAt}
-use Rattle.bisections.specs.Reports.{Report, Consistent, NearestLower, NearestHigher, KeepsRules}
-use Rattle.bisections.specs.Laws.{NearestPlacesDecide}
+use Rattle.bisections.specs.Reports.{Report, Explains, Consistent, NearestLower, NearestHigher, KeepsRules}
+use Rattle.bisections.specs.Laws.{NearestPlacesDecide, HonestIsAccepted}
+use Rattle.bisections.specs.Rows.{row, entry_at}
+use Rattle.bisections.proofs.Explaining.{explained_consistent}
 use Rattle.bisections.specs.declared.side.Side.{Side}
 use Rattle.bisections.proofs.Consistency.{Same, Agree, reported_all, all_reported, report_added, newest_agrees, reports_never_fall}
 use Rattle.bisections.proofs.Orders.{entry_order}
@@ -130,3 +132,10 @@ nearest_places_decide o = record {
   consistent = λ side k d reports r c one. rules_keep_consistent side k d reports r o c one;
   keeps_rules = λ side k d reports r c. consistent_keeps_rules side k d reports r c;
 }
+
+-- an honest seat's next entry keeps the rules
+pub honest_is_accepted : {E : Type 0} {before : E → E → Bool} → IsOrder before → HonestIsAccepted before
+honest_is_accepted {E} {before} o side k d reports from_1 xs x place one =
+    let r : Report E = record { place = place; entry = entry_at (row side k xs) place } in
+    let explains : Explains before side k d (r ∷ reports) xs = record { declared = x.declared; in_order = x.in_order; shows = (refl, x.shows) } in
+    consistent_keeps_rules side k d reports r (explained_consistent o side k d (r ∷ reports) (one, from_1) xs explains)

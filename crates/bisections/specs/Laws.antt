@@ -10,7 +10,7 @@ use Rattle.bisections.specs.Exchanges.{Finished}
 use Rattle.bisections.specs.Kept.{Bound, bounds_after, passes, widest}
 use Rattle.bisections.specs.Rebuilds.{rebuilt}
 use Rattle.bisections.specs.Reports.{Report, Explains, Consistent, KeepsRules}
-use Rattle.bisections.specs.Rows.{halvings, row_length}
+use Rattle.bisections.specs.Rows.{halvings, row, row_length, entry_at}
 use Rattle.bisections.specs.Windows.{OfSides, place_asked, moved, pair_verdicts, pair_result, joint_pair}
 use Rattle.bisections.specs.declared.bounds.Bounds.{Bounds}
 use Rattle.bisections.specs.declared.side.Side.{Side}
@@ -65,6 +65,13 @@ pub record NearestPlacesDecide {E : Type 0} (before : E → E → Bool) : Type 0
       1 ≤ r.place → KeepsRules before side k d reports r → Consistent before side k d (r ∷ reports)
   pub keeps_rules : (side : Side) (k d : ℕ) (reports : List (Report E)) (r : Report E) →
       Consistent before side k d (r ∷ reports) → KeepsRules before side k d reports r
+
+-- an honest seat is never refused: after reports that its list explains, its row's entry at any place keeps the rules
+abbrev pub HonestIsAccepted : {E : Type 0} → (E → E → Bool) → Type 0
+HonestIsAccepted {E} before =
+    (side : Side) (k d : ℕ) (reports : List (Report E)) → Each (λ r. 1 ≤ r.place) reports →
+    (xs : List E) → Explains before side k d reports xs → (place : ℕ) → 1 ≤ place →
+    KeepsRules before side k d reports (record { place = place; entry = entry_at (row side k xs) place })
 
 -- a window, of size 2 ^ j in a row for rank k, with the bounds that consistent reports leave it
 pub record Bounded {E : Type 0} (before : E → E → Bool) (side : Side) (k d offset j : ℕ)

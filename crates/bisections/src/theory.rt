@@ -1,4 +1,4 @@
-ghost use Rattle.bisections.specs.Laws.{BisectionFindsRank, VerdictsAreLogOfRank, SeatsRebuild, ExplainedIfConsistent, NearestPlacesDecide, BoundsDecide, EveryFinishedIsBisection};
+ghost use Rattle.bisections.specs.Laws.{BisectionFindsRank, VerdictsAreLogOfRank, SeatsRebuild, ExplainedIfConsistent, NearestPlacesDecide, HonestIsAccepted, BoundsDecide, EveryFinishedIsBisection};
 
 use elements::ordered::Ordered;
 
@@ -14,6 +14,7 @@ pub fn bisections_find_ranks<T: Ordered>()
 pub fn reports_have_lists<T: Ordered>()
     ensures explained { ExplainedIfConsistent T.Ordered.before }
     ensures nearest { NearestPlacesDecide T.Ordered.before }
+    ensures honest { HonestIsAccepted T.Ordered.before }
     ensures bounds { BoundsDecide T.Ordered.before }
     ensures finished { EveryFinishedIsBisection T.Ordered.before }
 {}

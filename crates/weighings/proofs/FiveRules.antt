@@ -1,10 +1,12 @@
 -- After accepted rounds, the five rules pass exactly the counts that some list explains together with the earlier ones.
-use Rattle.std.proofs.Common.{ℕ, ◌+◌, ◌-◌, List, [], ◌∷◌, ◌++◌, refl}
+use Rattle.std.proofs.Common.{ℕ, ◌+◌, ◌-◌, List, [], ◌∷◌, ◌++◌, map, refl}
 use Rattle.elements.specs.Orders.{OneElementEach}
 use Rattle.referees.specs.declared.verdict.GroupVerdict.TheVariants.{Lower, Higher, Done}
-use Rattle.weighings.specs.Laws.{NoneDone, Standing, standing_after, FiveRulesDecide}
+use Rattle.std.specs.List.{AllByRecursion as Each}
+use Rattle.weighings.specs.Counting.{HasCounts}
+use Rattle.weighings.specs.Laws.{NoneDone, Standing, standing_after, FiveRulesDecide, HonestIsPossible}
 use Rattle.weighings.specs.Ranges.{target, from_after, to_after}
-use Rattle.weighings.specs.Seats.{unheard, known_after, Possible, Round, round, EachPossible, NeverEmpty}
+use Rattle.weighings.specs.Seats.{unheard, known_after, Possible, Round, round, EachPossible, NeverEmpty, reports}
 use Rattle.weighings.specs.declared.counts.Counts.{Counts}
 use Rattle.weighings.proofs.Explained.{explained_if_possible}
 
@@ -43,3 +45,22 @@ five_rules_decide place lowest highest each =
           possible_last counts (record { a = lo; b = hi; seat = unheard d }) rounds
           (law.possible lo hi d (rounds ++ (round counts Done ∷ [])) (never_empty_more counts lo hi rounds n w) xs e);
     }
+
+-- places that have the counts of some rounds, and of a further one, have those of all
+shows_more : (ys : List ℕ) (counts : Counts) (at : Standing) (rounds : List Round) →
+    Each (λ r. HasCounts r.target ys r.counts) (reports at.a at.b rounds) →
+    let now = standing_after at rounds in HasCounts (target now.a now.b) ys counts →
+    Each (λ r. HasCounts r.target ys r.counts) (reports at.a at.b (rounds ++ (round counts Done ∷ [])))
+shows_more ys counts at [] s h = (h, tt)
+shows_more ys counts at (round c v ∷ later) s h =
+    (s.0, shows_more ys counts (record { a = from_after v at.a at.b; b = to_after v at.a at.b; seat = known_after v at.seat c }) later s.1 h)
+
+-- an honest seat's counts at the next target are possible
+pub honest_is_possible : {E : Type 0} (place : E → ℕ) (lowest highest : ℕ) → OneElementEach place lowest highest → HonestIsPossible place
+honest_is_possible place lowest highest each lo hi d rounds n w xs e counts h =
+    (five_rules_decide place lowest highest each).possible lo hi d rounds counts n w xs
+    (record {
+      declared = e.declared;
+      within = e.within;
+      shows = shows_more (map place xs) counts (record { a = lo; b = hi; seat = unheard d }) rounds e.shows h;
+    })

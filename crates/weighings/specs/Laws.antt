@@ -4,9 +4,9 @@ use Rattle.std.specs.List.{AllByRecursion as Each, sum}
 use Rattle.ranks.specs.Ranks.{joint, Ranked}
 use Rattle.referees.specs.declared.verdict.GroupVerdict.{GroupVerdict}
 use Rattle.referees.specs.declared.verdict.GroupVerdict.TheVariants.{Lower, Higher, Done}
-use Rattle.weighings.specs.Counting.{Within, weighed, told_by}
+use Rattle.weighings.specs.Counting.{HasCounts, Within, weighed, told_by}
 use Rattle.weighings.specs.Exchanges.{Reached, Turn, Finishes, verdicts, group_reports, ExplainAll}
-use Rattle.weighings.specs.Ranges.{from_after, to_after}
+use Rattle.weighings.specs.Ranges.{target, from_after, to_after}
 use Rattle.weighings.specs.Runs.{Run}
 use Rattle.weighings.specs.Seats.{unheard, known_after, Possible, keeps_rules, Round, round, EachPossible, NeverEmpty, reports, Explains}
 use Rattle.weighings.specs.declared.known.Known.{Known}
@@ -84,6 +84,15 @@ pub record FiveRulesDecide {E : Type 0} (place : E → ℕ) (lowest highest : �
       NeverEmpty lo hi rounds → NoneDone rounds →
       (xs : List E) → Explains place lo hi d (reports lo hi (rounds ++ (round counts Done ∷ []))) xs →
       let now = standing_after (record { a = lo; b = hi; seat = unheard d }) rounds in Possible now.a now.b now.seat counts
+
+-- An honest seat is never refused: after rounds whose counts its list explains, the true counts at the next target are
+-- possible.
+abbrev pub HonestIsPossible : {E : Type 0} → (E → ℕ) → Type 0
+HonestIsPossible {E} place =
+    (lo hi d : ℕ) (rounds : List Round) → NeverEmpty lo hi rounds → NoneDone rounds →
+    (xs : List E) → Explains place lo hi d (reports lo hi rounds) xs → (counts : Counts) →
+    let now = standing_after (record { a = lo; b = hi; seat = unheard d }) rounds in
+    HasCounts (target now.a now.b) (map place xs) counts → Possible now.a now.b now.seat counts
 
 -- Whoever lies: a finished exchange is the run of all lists that explain it, it ended at their element of rank k, within one
 -- round more than the logarithm of the number of places, and there are such lists.

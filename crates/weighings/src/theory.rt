@@ -1,4 +1,4 @@
-ghost use Rattle.weighings.specs.Laws.{WeighingFindsRank, RangeIsNeverEmpty, TestIsFiveRules, ExplainedIfPossible, FiveRulesDecide, EveryFinishedIsRun};
+ghost use Rattle.weighings.specs.Laws.{WeighingFindsRank, RangeIsNeverEmpty, TestIsFiveRules, ExplainedIfPossible, FiveRulesDecide, HonestIsPossible, EveryFinishedIsRun};
 
 use elements::placed::Placed;
 
@@ -14,5 +14,6 @@ pub fn counts_have_lists<T: Placed>()
     ensures test { TestIsFiveRules }
     ensures explained { ExplainedIfPossible T.Placed.place T.Placed.LOWEST T.Placed.HIGHEST }
     ensures five_rules { FiveRulesDecide T.Placed.place T.Placed.LOWEST T.Placed.HIGHEST }
+    ensures honest { HonestIsPossible T.Placed.place }
     ensures finished { EveryFinishedIsRun T.Ordered.before T.Placed.place T.Placed.LOWEST T.Placed.HIGHEST }
 {}
