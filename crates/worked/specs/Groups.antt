@@ -1,10 +1,15 @@
 -- Worked examples of a group's exchange: the lists are 3, 9 and 4 and 9, 12, each element is its own place, the range is 0
 -- to 15 and the rank is 3.
-use Rattle.std.specs.Prelude.{◌≡◌, ℕ, ◌-◌, ◌^◌, true, false, List, [], ◌∷◌}
+use Rattle.std.specs.Prelude.{◌≡◌, ℕ, ◌+◌, ◌-◌, ◌^◌, ◌≤◌, true, false, List, [], ◌∷◌, map, Some, None, Option, IfSome}
+use Rattle.std.proofs.Common.{lit≤}
+use Rattle.records.specs.Nesting.{weave}
+use Rattle.records.specs.Totals.{capped, totals_of}
+use Rattle.records.specs.declared.record.Record.{Record as SeatRecord}
 use Rattle.referees.specs.Verdicts.{weight_of}
 use Rattle.referees.specs.declared.verdict.GroupVerdict.{GroupVerdict}
 use Rattle.referees.specs.declared.verdict.GroupVerdict.TheVariants.{Lower, Higher, Done}
 use Rattle.weighings.specs.Counting.{below, above, weighed, told_by}
+use Rattle.weighings.specs.Exchanges.{turn, Finishes}
 use Rattle.weighings.specs.Laws.{standing_after}
 use Rattle.weighings.specs.Ranges.{target, from_after, to_after}
 use Rattle.weighings.specs.Runs.{Run}
@@ -18,10 +23,10 @@ three_lists = (3 ∷ 9 ∷ []) ∷ (4 ∷ []) ∷ (9 ∷ 12 ∷ []) ∷ []
 abbrev place : ℕ → ℕ
 place n = n
 
-abbrev counts : (l g : ℕ) → Counts
+abbrev pub counts : (l g : ℕ) → Counts
 counts l g = record { below = l; above = g }
 
-abbrev known : (declared low high : ℕ) → Known
+abbrev pub known : (declared low high : ℕ) → Known
 known declared low high = record { declared = declared; low = low; high = high }
 
 abbrev four_verdicts : List GroupVerdict
@@ -32,6 +37,8 @@ pub record Targets : Type 0 where
   pub second : target 9 15 ≡ 12
   pub third : target 9 11 ≡ 10
   pub fourth : target 9 9 ≡ 9
+  pub after_higher : from_after Higher 0 15 ≡ 9
+  pub after_lower : to_after Lower 9 15 ≡ 11
   pub of_all_places : target 0 (2 ^ 64 - 1) ≡ 2 ^ 63
   pub of_the_last_two : target (2 ^ 64 - 2) (2 ^ 64 - 1) ≡ 2 ^ 64 - 1
 
@@ -66,3 +73,23 @@ pub record Rules : Type 0 where
   pub would_begin_at : from_after Higher 9 9 ≡ 10
   pub too_few_below : keeps_rules 9 15 (known 2 1 0) (counts 0 2) ≡ false
   pub too_few_above : keeps_rules 9 11 (known 2 0 1) (counts 2 0) ≡ false
+
+-- the finished exchange of honest seats
+pub record GroupExchanges : Type 0 where
+  pub four_rounds : Finishes 3 5 0 15 (map unheard (2 ∷ 1 ∷ 2 ∷ []))
+      (turn (counts 1 1 ∷ counts 1 0 ∷ counts 0 2 ∷ []) Higher
+      ∷ turn (counts 2 0 ∷ counts 1 0 ∷ counts 1 0 ∷ []) Lower
+      ∷ turn (counts 2 0 ∷ counts 1 0 ∷ counts 1 1 ∷ []) Lower
+      ∷ turn (counts 1 0 ∷ counts 1 0 ∷ counts 0 1 ∷ []) Done
+      ∷ []) 9
+
+-- the record of a seat of three elements that has given this
+abbrev seat_with : (given : Option Counts) → IfSome given (λ c. c.below + c.above ≤ 3) → SeatRecord
+seat_with given fits = record { known = known 3 0 0; given = given; short = lit≤ tt; fits = fits }
+
+-- records in halves by their numbers, and what three of them add up to
+pub record Records : Type 0 where
+  pub taken_in_turns : weave {X = ℕ} (0 ∷ 2 ∷ 4 ∷ []) (1 ∷ 3 ∷ 5 ∷ []) ≡ 0 ∷ 1 ∷ 2 ∷ 3 ∷ 4 ∷ 5 ∷ []
+  pub totals : totals_of (seat_with (Some (counts 2 1)) (lit≤ tt) ∷ seat_with None tt ∷ seat_with (Some (counts 1 0)) (lit≤ tt) ∷ [])
+      ≡ record { given = 2; below = 3; above = 1 }
+  pub capped : capped (2 ^ 32 + 5) ≡ 2 ^ 32 - 1

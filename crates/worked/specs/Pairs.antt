@@ -1,7 +1,9 @@
 -- Worked examples of a pair's exchange: A's list is 12, 40, 55 and B's is 20, 31, 70, unless said.
 use Rattle.std.specs.Prelude.{◌≡◌, ℕ, true, false, List, [], ◌∷◌, nat_lt}
-use Rattle.bisections.specs.Kept.{passes, widest}
+use Rattle.bisections.specs.Exchanges.{Finished}
+use Rattle.bisections.specs.Kept.{bounds_after, passes, widest}
 use Rattle.bisections.specs.Rebuilds.{rebuilt}
+use Rattle.bisections.specs.Reports.{Report, KeepsRules}
 use Rattle.bisections.specs.Rows.{padded, row, row_length, entry_at, sort_at}
 use Rattle.bisections.specs.Windows.{OfSides, place_asked, verdicts, offset_after, pair_verdicts, pair_result}
 use Rattle.bisections.specs.declared.bounds.Bounds.{Bounds}
@@ -94,3 +96,24 @@ pub record Tests : Type 0 where
   pub same : passes nat_lt A 4 3 0 2 up_to_40 (Element 40) ≡ true
   pub again : passes nat_lt A 4 3 1 1 from_12_to_40 (Element 40) ≡ true
   pub less_now : passes nat_lt A 4 3 1 1 from_12_to_40 (Element 39) ≡ false
+
+-- what a verdict makes of the kept entries
+pub record Keeping : Type 0 where
+  pub below_40 : bounds_after A NotBefore (Element 40) widest ≡ up_to_40
+  pub above_12 : bounds_after A Before (Element 12) up_to_40 ≡ from_12_to_40
+  pub of_b : bounds_after {E = ℕ} B NotBefore (Element 31) widest ≡ record { low = Element 31; high = Above }
+
+abbrev at : ℕ → Entry ℕ → Report ℕ
+at place entry = record { place = place; entry = entry }
+
+-- what A reported before its last report for rank 4
+abbrev a_reported : List (Report ℕ)
+a_reported = at 1 (Element 12) ∷ at 2 (Element 40) ∷ []
+
+-- the finished exchange for rank 4, and what A could not have said at its end
+pub record PairExchanges : Type 0 where
+  pub rank_4 : (reports : Side → List (Report ℕ)) × (reports A ≡ at 2 (Element 40) ∷ a_reported)
+      × (reports B ≡ at 3 (Element 70) ∷ at 3 (Element 70) ∷ at 2 (Element 31) ∷ [])
+      × Finished nat_lt 4 (λ side. 3) reports (Before ∷ NotBefore ∷ []) (Element 40)
+  pub not_another : KeepsRules nat_lt A 4 3 a_reported (at 2 (Element 30)) → ⊥
+  pub not_less : KeepsRules nat_lt A 4 3 (at 2 (Element 40) ∷ []) (at 1 (Element 55)) → ⊥

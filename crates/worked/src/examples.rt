@@ -1,6 +1,6 @@
 ghost use Rattle.worked.specs.Examples.{Layouts, Kinds, Places, Ranks, Percentiles, Lines};
-ghost use Rattle.worked.specs.Groups.{Countings, GroupRuns, Rules, Targets};
-ghost use Rattle.worked.specs.Pairs.{Bisections, Rebuilt, Rows, Tests, WithoutBelows};
+ghost use Rattle.worked.specs.Groups.{Countings, GroupExchanges, GroupRuns, Records, Rules, Targets};
+ghost use Rattle.worked.specs.Pairs.{Bisections, Keeping, PairExchanges, Rebuilt, Rows, Tests, WithoutBelows};
 ghost use Rattle.worked.specs.Refereeing.{Halves, Marks, Payers, Plays, Questions, Stocks, Verdicts};
 
 /// The definitions that contracts cite give what a reader works out by hand; the call itself does nothing.
@@ -31,6 +31,8 @@ pub fn bisecting_works()
     ensures without_belows { WithoutBelows }
     ensures rebuilt { Rebuilt }
     ensures tests { Tests }
+    ensures keeping { Keeping }
+    ensures exchanges { PairExchanges }
 {}
 
 /// The same of the definitions of a group's exchange.
@@ -39,4 +41,6 @@ pub fn weighing_works()
     ensures countings { Countings }
     ensures runs { GroupRuns }
     ensures rules { Rules }
+    ensures exchanges { GroupExchanges }
+    ensures records { Records }
 {}

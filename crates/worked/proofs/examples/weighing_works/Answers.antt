@@ -1,15 +1,36 @@
-use Rattle.std.proofs.Common.{refl, lit≤}
-use Rattle.weighings.specs.Runs.{done, lower, higher}
+use Rattle.std.proofs.Common.{◌≡◌, ℕ, [], ◌∷◌, refl, rules, true, lit≤}
+use Rattle.weighings.specs.Exchanges.{done, lower, higher}
+use Rattle.weighings.specs.Runs.{done as run_done, lower as run_lower, higher as run_higher}
+use Rattle.weighings.specs.Seats.{Possible, keeps_rules}
+use Rattle.weighings.specs.declared.counts.Counts.{Counts}
+use Rattle.weighings.specs.declared.known.Known.{Known}
+use Rattle.worked.specs.Groups.{counts, known}
 use Rattle.worked.proofs.examples.weighing_works.Goals as goal
+
+-- counts that pass the test are possible
+passed : (a b : ℕ) (seat : Known) (told : Counts) → keeps_rules a b seat told ≡ true → Possible a b seat told
+passed a b seat told t = search rules
 
 pub returns : goal.returns
 returns c = record {
-  targets = record { first = refl; second = refl; third = refl; fourth = refl; of_all_places = refl; of_the_last_two = refl };
+  targets = record { first = refl; second = refl; third = refl; fourth = refl; after_higher = refl; after_lower = refl; of_all_places = refl; of_the_last_two = refl };
   countings = record { below_8 = refl; above_8 = refl; below_9 = refl; above_9 = refl };
   runs = record {
-    weighed_run = higher (lit≤ tt) refl (lower (lit≤ tt) refl (lower (lit≤ tt) refl (done (lit≤ tt) refl)));
-    told_run = higher (lit≤ tt) refl (lower (lit≤ tt) refl (lower (lit≤ tt) refl (done (lit≤ tt) refl)));
-    one_place = done (lit≤ tt) refl;
+    weighed_run = run_higher (lit≤ tt) refl (run_lower (lit≤ tt) refl (run_lower (lit≤ tt) refl (run_done (lit≤ tt) refl)));
+    told_run = run_higher (lit≤ tt) refl (run_lower (lit≤ tt) refl (run_lower (lit≤ tt) refl (run_done (lit≤ tt) refl)));
+    one_place = run_done (lit≤ tt) refl;
   };
+  exchanges = record {
+    four_rounds =
+        higher (counts 1 1 ∷ counts 1 0 ∷ counts 0 2 ∷ [])
+        (passed 0 15 (known 2 0 0) (counts 1 1) refl, (passed 0 15 (known 1 0 0) (counts 1 0) refl, (passed 0 15 (known 2 0 0) (counts 0 2) refl, tt))) refl
+        (lower (counts 2 0 ∷ counts 1 0 ∷ counts 1 0 ∷ [])
+        (passed 9 15 (known 2 1 0) (counts 2 0) refl, (passed 9 15 (known 1 1 0) (counts 1 0) refl, (passed 9 15 (known 2 0 0) (counts 1 0) refl, tt))) refl
+        (lower (counts 2 0 ∷ counts 1 0 ∷ counts 1 1 ∷ [])
+        (passed 9 11 (known 2 1 0) (counts 2 0) refl, (passed 9 11 (known 1 1 0) (counts 1 0) refl, (passed 9 11 (known 2 0 1) (counts 1 1) refl, tt))) refl
+        (done (counts 1 0 ∷ counts 1 0 ∷ counts 0 1 ∷ [])
+        (passed 9 9 (known 2 1 0) (counts 1 0) refl, (passed 9 9 (known 1 1 0) (counts 1 0) refl, (passed 9 9 (known 2 0 1) (counts 0 1) refl, tt))) refl)));
+  };
+  records = record { taken_in_turns = refl; totals = refl; capped = refl };
   rules = record { standing = refl; honest = refl; at_edge = refl; would_be_lower = refl; would_end_at = refl; too_many = refl; at_other_edge = refl; would_be_higher = refl; would_begin_at = refl; too_few_below = refl; too_few_above = refl };
 }
