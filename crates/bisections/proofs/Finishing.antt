@@ -29,7 +29,7 @@ module _ {E : Type 0} {before : E → E → Bool} (o : IsOrder before) (k : ℕ)
       rules_keep_consistent side k (declared side) (reports side) (reported places entries side) o (c side) (one side) (a side)
 
   -- the reports of an exchange are consistent
-  exchange_consistent : {offsets : OfSides} {j : ℕ} {reports : Side → List (Report E)} {vs : List PairVerdict} →
+  pub exchange_consistent : {offsets : OfSides} {j : ℕ} {reports : Side → List (Report E)} {vs : List PairVerdict} →
       Exchange before k declared offsets j reports vs → (side : Side) → Consistent before side k (declared side) (reports side)
   exchange_consistent opened side = none_consistent before side k (declared side)
   exchange_consistent (compared {offsets = offsets} {j = j} {reports = reports} entries x a) side =
@@ -37,17 +37,17 @@ module _ {E : Type 0} {before : E → E → Bool} (o : IsOrder before) (k : ℕ)
 
 module _ {E : Type 0} (before : E → E → Bool) (k : ℕ) (lists : Side → List E) where
   -- the verdicts on two lists from windows with these offsets and size 2 ^ j on
-  abbrev later : OfSides → ℕ → List PairVerdict
+  abbrev pub later : OfSides → ℕ → List PairVerdict
   later offsets j = verdicts (judged before k lists) offsets j
 
   -- after these verdicts, the newest first, the bisection over two lists has windows with these offsets and size 2 ^ j
-  record Reaches (offsets : OfSides) (j : ℕ) (vs : List PairVerdict) : Type 0 where
-    verdicts_are : pair_verdicts before k lists ≡ reverse_aux vs (later offsets j)
-    ends_alike : (side : Side) →
+  pub record Reaches (offsets : OfSides) (j : ℕ) (vs : List PairVerdict) : Type 0 where
+    pub verdicts_are : pair_verdicts before k lists ≡ reverse_aux vs (later offsets j)
+    pub ends_alike : (side : Side) →
         offset_after side 0 (halvings k) (pair_verdicts before k lists) ≡ offset_after side (offsets side) j (later offsets j)
 
   -- over lists whose rows show the reports of an exchange, the bisection reaches the windows of the exchange
-  exchange_reached : {declared offsets : OfSides} {j : ℕ} {reports : Side → List (Report E)} {vs : List PairVerdict} →
+  pub exchange_reached : {declared offsets : OfSides} {j : ℕ} {reports : Side → List (Report E)} {vs : List PairVerdict} →
       Exchange before k declared offsets j reports vs →
       ((side : Side) → Each (λ r. entry_at (row side k (lists side)) r.place ≡ r.entry) (reports side)) → Reaches offsets j vs
   exchange_reached opened shown = record { verdicts_are = refl; ends_alike = λ side. refl }

@@ -1,3 +1,4 @@
+pub mod Sides
 pub mod Rows
 pub mod Windows
 pub mod Rebuilds

@@ -1,6 +1,8 @@
 ghost use Rattle.std.specs.Prelude.{◌≡◌};
+ghost use Rattle.bisections.specs.Sides.{seat_of};
 ghost use Rattle.bisections.specs.Windows.{moves};
 
+use faults::fault::Seat;
 use referees::verdict::PairVerdict;
 
 /// One of the two seats of a pair.
@@ -18,6 +20,18 @@ impl Side {
         match self {
             Side::A => verdict == PairVerdict::Before,
             Side::B => verdict == PairVerdict::NotBefore,
+        }
+    }
+}
+
+/// The seat as a fault names it.
+impl From<Side> for Seat {
+    ghost from_gives = { λ side seat. seat ≡ seat_of side };
+
+    fn from(side: Side) -> Seat {
+        match side {
+            Side::A => Seat::A,
+            Side::B => Seat::B,
         }
     }
 }

@@ -1,5 +1,5 @@
 -- The laws that an ordered type owes, those that a placed one owes besides, and lists in order.
-use Rattle.std.specs.Prelude.{◌≡◌, ℕ, ◌<◌, ◌≤◌, Bool, true, false, ◌⊎◌, List, length, Some, None, Option, nat_lt, slice_index_or}
+use Rattle.std.specs.Prelude.{◌≡◌, ℕ, suc, ◌-◌, ◌<◌, ◌≤◌, Bool, true, false, ◌⊎◌, List, length, Some, None, Option, nat_lt, slice_index_or}
 
 -- exactly one of three holds
 abbrev pub ExactlyOne : Type 0 → Type 0 → Type 0 → Type 0
@@ -36,3 +36,10 @@ AtPlace place lowest highest n None = lowest ≤ n → n ≤ highest → ⊥
 -- a list in order: no element is before one that stands earlier
 abbrev pub NeverFalls : {E : Type 0} → (E → E → Bool) → List E → Type 0
 NeverFalls {E} before xs = (i j : ℕ) (d : E) → i ≤ j → j < length xs → before (slice_index_or xs j d) (slice_index_or xs i d) ≡ false
+
+-- element spot, counted from 1, is before its predecessor, and no earlier element is before its own
+pub record FirstFall {E : Type 0} (before : E → E → Bool) (xs : List E) (spot : ℕ) : Type 0 where
+  pub second : 2 ≤ spot
+  pub inside : spot ≤ length xs
+  pub falls : (d : E) → before (slice_index_or xs (spot - 1) d) (slice_index_or xs (spot - 2) d) ≡ true
+  pub first : (i : ℕ) (d : E) → suc i < spot - 1 → before (slice_index_or xs (suc i) d) (slice_index_or xs i d) ≡ false

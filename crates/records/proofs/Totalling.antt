@@ -44,7 +44,7 @@ counts_small d short None fits = (omega arith, omega arith)
 counts_small d short (Some counts) fits = (omega arith, omega arith)
 
 -- sixteen records are sixteen
-length_sixteen : (seats : Two (Two (Two (Two Record)))) → length (sixteen_seats seats) ≡ 16
+pub length_sixteen : (seats : Two (Two (Two (Two Record)))) → length (sixteen_seats seats) ≡ 16
 unfolding sixteen_seats
 length_sixteen seats = refl
 

@@ -2,7 +2,7 @@
 use Rattle.std.proofs.Common.{◌≡◌, ℕ, suc, ◌+◌, ◌-◌, ◌*◌, ◌/◌, ◌%◌, ◌<◌, ◌≤◌, Bool, false, ◌⊎◌, List, length, get_or, drop, None, Ok, Err, Option, Result, sym, ap, ◌∙◌, subst, inl, inr, mul-le-mul_right, suc-mul, div-add-mod', arith, length-drop}
 use native.Mathlib.Nat.{mul-mod_left}
 use Rattle.std.proofs.lemmas.Bool.{both_ways, cases_lt}
-use Rattle.elements.specs.Orders.{IsOrder, Trichotomy, Transitive}
+use Rattle.elements.specs.Orders.{IsOrder, Trichotomy, Transitive, FirstFall}
 use Rattle.elements.proofs.Indexes.{at_index}
 use Rattle.elements.proofs.OrderFacts.{neighbours_never_fall}
 use Rattle.faults.specs.Numbers.{number_of}
@@ -12,7 +12,7 @@ use Rattle.faults.specs.declared.refusal.Refusal.TheVariants.{SheetTooShort, Ver
 use Rattle.sheets.specs.Layouts.{Format, FixedWidth, Distinct, Complete, Bytes, packed}
 use Rattle.sheets.specs.Headers.{version, stated_count, kind_of, most}
 use Rattle.sheets.specs.HeaderChecks.{HeaderPasses, HeaderFails}
-use Rattle.sheets.specs.Refusals.{FirstFall, Body, Applies, Acceptable}
+use Rattle.sheets.specs.Refusals.{Body, Applies, Acceptable}
 use Rattle.faults.specs.declared.fault.Seat.{Seat}
 use Rattle.faults.specs.declared.fault.SheetFault.{SheetFault}
 use Rattle.sheets.specs.Readings.{FallAt, Filled, Answers, ReaderLaw}

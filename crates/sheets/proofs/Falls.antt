@@ -16,7 +16,7 @@ use Rattle.std.specs.declared.iter.Skip.{Skip}
 use Rattle.std.specs.declared.iter.Zip.{Zip}
 use Rattle.elements.proofs.Indexes.{at_index}
 use Rattle.sheets.specs.Layouts.{Format, FixedWidth, packed}
-use Rattle.sheets.specs.Refusals.{FirstFall}
+use Rattle.elements.specs.Orders.{FirstFall}
 use Rattle.sheets.specs.Readings.{FallAt}
 use Rattle.sheets.proofs.Bodies.{length-packed, part_at}
 

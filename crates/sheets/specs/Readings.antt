@@ -5,7 +5,8 @@ use Rattle.faults.specs.declared.refusal.Refusal.{Refusal}
 use Rattle.faults.specs.declared.fault.Seat.{Seat}
 use Rattle.faults.specs.declared.fault.SheetFault.{SheetFault}
 use Rattle.sheets.specs.Layouts.{Format}
-use Rattle.sheets.specs.Refusals.{FirstFall, Applies, Acceptable}
+use Rattle.elements.specs.Orders.{FirstFall}
+use Rattle.sheets.specs.Refusals.{Applies, Acceptable}
 
 -- where the first fall of a list is, if it has one
 abbrev pub FallAt : {E : Type 0} → (E → E → Bool) → List E → Option ℕ → Type 0

@@ -1,17 +1,10 @@
 -- The conditions under which a sheet is refused, and the condition under which it is accepted.
-use Rattle.std.specs.Prelude.{◌≡◌, ℕ, suc, ◌-◌, ◌<◌, ◌≤◌, Bool, true, false, List, length, drop, slice_index_or}
-use Rattle.elements.specs.Orders.{NeverFalls}
+use Rattle.std.specs.Prelude.{◌≡◌, ℕ, ◌-◌, ◌<◌, ◌≤◌, Bool, List, length, drop}
+use Rattle.elements.specs.Orders.{NeverFalls, FirstFall}
 use Rattle.faults.specs.declared.refusal.Refusal.{Refusal}
 use Rattle.faults.specs.declared.refusal.Refusal.TheVariants.{SheetTooShort, VersionUnknown, CountDiffers, KindNotWanted, BodyNotAList, OutOfOrder, SliceTooShort, SeatsOutOfBounds, ListTooLong, RangeNotPlaces, RankOutOfBounds, OutsideRange, NotItsTurn, Impossible, ReportMissing, StockEmpty}
 use Rattle.sheets.specs.Layouts.{Format, packed, layout}
 use Rattle.sheets.specs.Headers.{version, stated_count, kind_of, most, HoldsElements}
-
--- element spot, counted from 1, is before its predecessor, and no earlier element is before its own
-pub record FirstFall {E : Type 0} (before : E → E → Bool) (xs : List E) (spot : ℕ) : Type 0 where
-  pub second : 2 ≤ spot
-  pub inside : spot ≤ length xs
-  pub falls : (d : E) → before (slice_index_or xs (spot - 1) d) (slice_index_or xs (spot - 2) d) ≡ true
-  pub first : (i : ℕ) (d : E) → suc i < spot - 1 → before (slice_index_or xs (suc i) d) (slice_index_or xs i d) ≡ false
 
 -- a list that stands after the header
 abbrev pub Body : {E : Type 0} → Format E → List ℕ → List E → Type 0

@@ -134,7 +134,7 @@ module _ {E : Type 0} (place : E → ℕ) where
       )
 
   -- the declared lengths of lists add up to their lengths
-  declared_sum : (declared : List ℕ) (lists : List (List E)) → AllZip (λ d xs. length xs ≡ d) declared lists → sum declared ≡ sum_by length lists
+  pub declared_sum : (declared : List ℕ) (lists : List (List E)) → AllZip (λ d xs. length xs ≡ d) declared lists → sum declared ≡ sum_by length lists
   declared_sum [] [] h = refl
   declared_sum [] (xs ∷ lists) h = absurd h
   declared_sum (d ∷ ds) [] h = absurd h
@@ -143,7 +143,7 @@ module _ {E : Type 0} (place : E → ℕ) where
 
   module _ (k n : ℕ) (lists : List (List E)) (size : n ≡ sum_by length lists) where
     -- the verdict on what is reported of lists is that of weighing them
-    verdict_weighed : (m : ℕ) (told : List Counts) (v : GroupVerdict) → AllZip (λ xs counts. HasCounts m (map place xs) counts) lists told →
+    pub verdict_weighed : (m : ℕ) (told : List Counts) (v : GroupVerdict) → AllZip (λ xs counts. HasCounts m (map place xs) counts) lists told →
         verdict_on k n told ≡ v → weighed place k lists m ≡ v
     verdict_weighed m told v h e =
         let s = report_sums m lists told h in

@@ -4,7 +4,9 @@ pub mod BelowAndAbove
 pub mod Verdicts
 pub mod Weighing
 pub mod NeverEmpty
+pub mod Narrowing
 pub mod Building
 pub mod Explained
+pub mod LaterRounds
 pub mod FiveRules
 pub mod Finishing

@@ -146,7 +146,7 @@ module _ (k n a b : ℕ) (seats : List Known) (told : List Counts) (i : RankInRa
       )
 
 -- where p is at most half of q, and q is at most w once it is doubled so many times, so is p once more
-halves : (p q rounds w : ℕ) → p * 2 ≤ q → q * 2 ^ rounds ≤ w → p * 2 ^ suc rounds ≤ w
+pub halves : (p q rounds w : ℕ) → p * 2 ≤ q → q * 2 ^ rounds ≤ w → p * 2 ^ suc rounds ≤ w
 halves p q rounds w h l = let e : 2 ^ suc rounds ≡ 2 * 2 ^ rounds = omega arith in rw e (omega (arith, mul-le-mul_right (2 ^ rounds) h))
 
 module _ (lo hi k : ℕ) (declared : List ℕ) (order : lo ≤ hi) (one : 1 ≤ k) (most : k ≤ sum declared) where

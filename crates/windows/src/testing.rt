@@ -23,7 +23,7 @@ pub fn sort_of<T: Ordered>(entry: Entry<T>) -> Sort
 
 impl Window {
     /// How many belows a side's row begins with.
-    fn belows(self, side: Side) -> u64
+    pub fn belows(self, side: Side) -> u64
         ensures { result ≡ belows side self.rank }
     {
         match side {

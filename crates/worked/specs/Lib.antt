@@ -3,3 +3,4 @@ pub mod Carrying
 pub mod Refereeing
 pub mod Pairs
 pub mod Groups
+pub mod Cases

@@ -1,3 +1,4 @@
+ghost use Rattle.worked.specs.Cases.{EveryCaseHolds};
 ghost use Rattle.worked.specs.Examples.{Layouts, Kinds, Places, Ranks, Percentiles, Lines};
 ghost use Rattle.worked.specs.Groups.{Countings, GroupExchanges, GroupRuns, Records, Rules, Targets};
 ghost use Rattle.worked.specs.Pairs.{Bisections, Keeping, PairExchanges, Rebuilt, Rows, Tests, WithoutBelows};
@@ -43,4 +44,9 @@ pub fn weighing_works()
     ensures rules { Rules }
     ensures exchanges { GroupExchanges }
     ensures records { Records }
+{}
+
+/// The table of worked cases, tried by one computation.
+pub fn every_case_holds()
+    ensures { EveryCaseHolds }
 {}

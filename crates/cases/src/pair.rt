@@ -1,0 +1,235 @@
+use bisections::side::Side;
+use counters::plain::Plain;
+use elements::delay::Delay;
+use elements::entry::Entry;
+use elements::ordered::Ordered;
+use faults::fault::RunFault;
+use pairs::opening::open;
+use pairstages::stages::{Comparing, OfPair, Run, Stage, Stepped};
+use referees::verdict::PairVerdict;
+use requests::answering::answer;
+use runs::slip::Slip;
+use std::io;
+
+/// Prints whether a call was accepted.
+pub(crate) fn tell(rt: &HostRuntime, what: &str, answer: Result<(), RunFault>) -> io::Result<()> {
+    match answer {
+        Ok(()) => println!(rt; "{what}: accepted"),
+        Err(fault) => println!(rt; "{what}: {fault}"),
+    }
+}
+
+/// Ends a run in whichever stage it is.
+fn break_off<T: Ordered>(stage: Stage<T>, slip: Slip<OfPair>) -> u32 {
+    match stage {
+        Stage::Comparing(run) => run.break_off(slip),
+        Stage::Closing(run) => run.break_off(slip),
+    }
+}
+
+/// How an opening is answered; an accepted one is broken off at once.
+fn opened(a: u32, b: u32, rank: u32) -> Result<(), RunFault> {
+    let (stage, slip) = open::<Delay>(a, b, rank)?;
+    break_off(stage, slip);
+    Ok(())
+}
+
+/// Openings at the ends of the ranks, and with a list that is too long.
+pub(crate) fn tell_openings(rt: &HostRuntime) -> io::Result<()> {
+    tell(rt, "lengths 3 and 3, rank 6", opened(3, 3, 6))?;
+    tell(rt, "lengths 3 and 3, rank 7", opened(3, 3, 7))?;
+    tell(rt, "lengths 3 and 3, rank 0", opened(3, 3, 0))?;
+    tell(rt, "lengths 65537 and 3, rank 0", opened(65_537, 3, 0))
+}
+
+fn element(micros: u32) -> Entry<Delay> {
+    Entry::Element(Delay { micros })
+}
+
+/// What the calls of one run are answered, and how many verdicts it made until it was broken off.
+#[derive(Clone, Copy)]
+struct Answers {
+    early_step: Option<RunFault>,
+    late_step: Option<RunFault>,
+    verdict: Option<PairVerdict>,
+    lie: Result<(), RunFault>,
+    truth: Result<(), RunFault>,
+    again: Result<(), RunFault>,
+    made: u32,
+}
+
+/// No call is answered yet.
+fn no_answers() -> Answers {
+    Answers {
+        early_step: None,
+        late_step: None,
+        verdict: None,
+        lie: Ok(()),
+        truth: Ok(()),
+        again: Ok(()),
+        made: 0,
+    }
+}
+
+/// A, which reported 40 at place 2 and was told 0, is asked for place 1: 55 cannot stand there, 40 can, and a further report
+/// is out of its turn.
+fn lie_and_own_up(run: &mut Run<Delay, Comparing>, answers: &mut Answers) {
+    answers.lie = run.report(Side::A, element(55));
+    answers.truth = run.report(Side::A, element(40));
+    answers.again = run.report(Side::A, element(40));
+}
+
+/// Steps too early, then has 40 and 31 reported and steps, over a referee of some stock; then A lies.
+fn play(run: Run<Delay, Comparing>, slip: Slip<OfPair>, stock: u64) -> Answers {
+    let mut referee = Plain::with_stock(stock);
+    let mut answers = no_answers();
+    let mut run = match run.step(&mut referee) {
+        Stepped::Refused(fault, run) => {
+            answers.early_step = Some(fault);
+            run
+        }
+        Stepped::Told(_, stage) => {
+            answers.made = break_off(stage, slip);
+            return answers;
+        }
+    };
+    answers.truth = run.report(Side::A, element(40));
+    answers.truth = run.report(Side::B, element(31));
+    match run.step(&mut referee) {
+        Stepped::Told(verdict, stage) => {
+            answers.verdict = Some(verdict);
+            answers.made = go_on(stage, slip, &mut answers);
+        }
+        Stepped::Refused(fault, run) => {
+            answers.late_step = Some(fault);
+            answers.made = run.break_off(slip);
+        }
+    }
+    answers
+}
+
+/// Lets A lie in a run that is comparing, and ends the run.
+fn go_on(stage: Stage<Delay>, slip: Slip<OfPair>, answers: &mut Answers) -> u32 {
+    match stage {
+        Stage::Comparing(mut run) => {
+            lie_and_own_up(&mut run, answers);
+            run.break_off(slip)
+        }
+        Stage::Closing(run) => run.break_off(slip),
+    }
+}
+
+/// A run for rank 4 over lists of 3, broken off after A has lied; and the same over a referee with no stock.
+fn played(stock: u64) -> Result<Answers, RunFault> {
+    let (stage, slip) = open(3, 3, 4)?;
+    match stage {
+        Stage::Comparing(run) => Ok(play(run, slip, stock)),
+        closing => {
+            break_off(closing, slip);
+            Ok(no_answers())
+        }
+    }
+}
+
+/// Prints a refusal, where there is one.
+fn tell_fault(rt: &HostRuntime, what: &str, fault: Option<RunFault>) -> io::Result<()> {
+    match fault {
+        Some(fault) => println!(rt; "{what}: {fault}"),
+        None => Ok(()),
+    }
+}
+
+/// The calls of a run, one by one.
+pub(crate) fn tell_run(rt: &HostRuntime) -> io::Result<()> {
+    match played(64) {
+        Err(fault) => println!(rt; "rank 4: {fault}"),
+        Ok(answers) => {
+            tell_fault(rt, "a step before any report", answers.early_step)?;
+            if let Some(verdict) = answers.verdict {
+                println!(rt; "40 and 31 are reported: verdict {verdict}")?;
+            }
+            tell(rt, "A reports 55 at place 1", answers.lie)?;
+            tell(rt, "A reports 40 there", answers.truth)?;
+            tell(rt, "A reports 40 again", answers.again)?;
+            println!(rt; "broken off: count {}", answers.made)
+        }
+    }
+}
+
+/// The same over a referee with no stock.
+pub(crate) fn tell_empty_stock(rt: &HostRuntime) -> io::Result<()> {
+    match played(0) {
+        Err(fault) => println!(rt; "rank 4: {fault}"),
+        Ok(answers) => {
+            tell_fault(rt, "a step with stock 0", answers.late_step)?;
+            println!(rt; "broken off: count {}", answers.made)
+        }
+    }
+}
+
+/// A request, and what it is an example of.
+#[derive(Clone, Copy)]
+struct Request {
+    name: &'static str,
+    bytes: &'static [u8],
+}
+
+/// Requests over A = 12, 40, 55 and B = 20, 31, 70, unless they say otherwise.
+static REQUESTS: [Request; 8] = [
+    Request {
+        name: "three bytes",
+        bytes: b"\0\0\0",
+    },
+    Request {
+        name: "rank 1",
+        bytes: b"\0\0\0\x01\x01\0\0\0\x0d\x01\0\0\0\x0c\0\0\0\x28\0\0\0\x37\x01\0\0\0\x0d\x01\0\0\0\x14\0\0\0\x1f\0\0\0\x46",
+    },
+    Request {
+        name: "rank 7",
+        bytes: b"\0\0\0\x07\x01\0\0\0\x0d\x01\0\0\0\x0c\0\0\0\x28\0\0\0\x37\x01\0\0\0\x0d\x01\0\0\0\x14\0\0\0\x1f\0\0\0\x46",
+    },
+    Request {
+        name: "A empty, rank 2",
+        bytes: b"\0\0\0\x02\x01\0\0\0\x01\x01\x01\0\0\0\x0d\x01\0\0\0\x14\0\0\0\x1f\0\0\0\x46",
+    },
+    Request {
+        name: "B is 20, 70, 31",
+        bytes: b"\0\0\0\x04\x01\0\0\0\x0d\x01\0\0\0\x0c\0\0\0\x28\0\0\0\x37\x01\0\0\0\x0d\x01\0\0\0\x14\0\0\0\x46\0\0\0\x1f",
+    },
+    Request {
+        name: "A is 40, 12 and B of version 2, rank 0",
+        bytes: b"\0\0\0\0\x01\0\0\0\x09\x01\0\0\0\x28\0\0\0\x0c\x02\0\0\0\x01\x01",
+    },
+    Request {
+        name: "A ends before it states, and B is not there",
+        bytes: b"\0\0\0\x01\x01\0\0\0\x0d\x01\0\0\0\x0c",
+    },
+    Request {
+        name: "A is whole and B is not there",
+        bytes: b"\0\0\0\x01\x01\0\0\0\x05\x01\0\0\0\x0c",
+    },
+];
+
+/// Prints what a request is answered.
+fn tell_request(rt: &HostRuntime, request: Request) -> io::Result<()> {
+    let Request { name, bytes } = request;
+    let mut a = [Delay { micros: 0 }; 3];
+    let mut b = [Delay { micros: 0 }; 3];
+    let mut log = [PairVerdict::NotBefore; 8];
+    match answer(bytes, &mut a, &mut b, &mut log) {
+        Ok(finished) => {
+            let result = finished.result;
+            let count = finished.count;
+            println!(rt; "{name}: result {result}, count {count}")
+        }
+        Err(fault) => println!(rt; "{name}: {fault}"),
+    }
+}
+
+/// Requests, right ones and wrong ones.
+pub(crate) fn tell_requests(rt: &HostRuntime) -> io::Result<()> {
+    for request in REQUESTS {
+        tell_request(rt, request)?;
+    }
+    Ok(())
+}

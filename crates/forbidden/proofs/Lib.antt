@@ -1,0 +1,2 @@
+pub mod PairTraces
+pub mod GroupTraces

@@ -1,0 +1,121 @@
+-- Every history of the run of a group keeps the law.
+use Rattle.std.proofs.Common.{◌≡◌, ℕ, ◌^◌, ◌<◌, Bool, List, [], ◌++◌, reverse, Ok, Err, Result, sym, ◌∙◌, subst}
+use Rattle.std.proofs.lemmas.List.{append-nil}
+use Rattle.elements.specs.Orders.{IsOrder, Trichotomy, Transitive, PlacesAgree, OneElementEach}
+use Rattle.faults.specs.declared.fault.RunFault.{RunFault}
+use Rattle.ranks.specs.Ranks.{joint, Ranked}
+use Rattle.referees.specs.declared.verdict.GroupVerdict.{GroupVerdict}
+use Rattle.runs.specs.HistoryLaw.{ExplainAll, Rebuilt, Answered, Finishes, HistoryLaw}
+use Rattle.runs.specs.Traces.{verdicts, EachReport, Ends}
+use Rattle.runs.specs.declared.slip.Slip.{Slip}
+use Rattle.groupstages.specs.Calls.{Opens, round_of, opened_round}
+use Rattle.groupstages.specs.Histories.{GroupTrace, Now, going, over, History, opened, report, step, finish, break_off}
+use Rattle.groupstages.specs.declared.stages.Comparing.{Comparing}
+use Rattle.groupstages.specs.declared.stages.OfGroup.{OfGroup}
+use Rattle.groupstages.specs.declared.stages.Run.{Run}
+use Rattle.groupstages.specs.declared.stages.Stage.{Stage}
+use Rattle.groupstages.specs.declared.stages.Stage.TheVariants.{Comparing as StillComparing, Closing as NowClosing}
+use Rattle.groups.specs.GroupHistories.{AsksNow, HistoriesKeepLaw}
+use Rattle.groups.proofs.Closing.{begins_weighing, is_weighing}
+use Rattle.groups.proofs.Explaining.{one_of_rank, some_lists_explain}
+use Rattle.groups.proofs.Finishing.{rebuilds_weighing, finish_lawful}
+use Rattle.groups.proofs.Histories.{AtStage, StandsAt, made_told, stands_at}
+use Rattle.groups.proofs.Judging.{own_list_explains, report_answered}
+use Rattle.groups.proofs.Openings.{Group, Allowed, opening_allowed}
+use Rattle.groups.proofs.Standing.{protocol, explained_heard, heard_explained, target_asked}
+
+module _ {T : Type 0} {g : Group T} (o : IsOrder g.before) (agrees : PlacesAgree g.before g.place) (each : OneElementEach g.place g.lowest g.highest)
+    (allowed : Allowed g) where
+  -- each report of a trace is answered as the law says
+  abbrev EachAnswered : GroupTrace T → Type 0
+  EachAnswered trace = EachReport (Answered (protocol g)) trace
+
+  -- a trace ends as the law says
+  abbrev EndsWell : GroupTrace T → Type 0
+  EndsWell trace = Ends (Finishes (protocol g)) trace
+
+  -- some lists explain the reports of the trace of a run
+  some_lists : (stage : Stage T) (trace : GroupTrace T) → AtStage g stage trace →
+      (lists : List (List T)) × ExplainAll (protocol g) lists trace
+  some_lists (StillComparing run) trace after =
+      let some = some_lists_explain each allowed after in (some.0, heard_explained trace some.0 some.1)
+  some_lists (NowClosing run) trace closed =
+      let some = some_lists_explain each allowed closed.stood in (some.0, heard_explained trace some.0 some.1)
+
+  -- whatever lists do, each seat rebuilds its verdicts, and a rest
+  first_rebuilt : (stage : Stage T) (trace : GroupTrace T) → AtStage g stage trace →
+      (lists : List (List T)) → ExplainAll (protocol g) lists trace → (x : T) → Ranked g.before g.k (joint lists) x →
+      (rest : List GroupVerdict) × Rebuilt (protocol g) lists x (reverse (verdicts trace) ++ rest)
+  first_rebuilt (StillComparing run) trace after lists all x r =
+      let e = explained_heard trace lists all in
+      let begins = begins_weighing o agrees e x r after in
+      (begins.0, rebuilds_weighing o agrees trace lists e x r (reverse (verdicts trace) ++ begins.0) begins.1)
+  first_rebuilt (NowClosing run) trace closed lists all x r =
+      let e = explained_heard trace lists all in
+      let told = reverse (verdicts trace) in (
+        [],
+        subst (Rebuilt (protocol g) lists x) (sym (append-nil told))
+            (rebuilds_weighing o agrees trace lists e x r told (is_weighing o agrees e x r closed).0),
+      )
+
+  -- the trace of a run keeps the law, once its reports are answered and it ends as the law says
+  law_of_run : (stage : Stage T) (trace : GroupTrace T) → AtStage g stage trace → EachAnswered trace → EndsWell trace →
+      HistoryLaw (protocol g) trace
+  law_of_run stage trace at answered ends = record {
+    some_lists = some_lists stage trace at;
+    own_list = λ number seated xs h. own_list_explains g number xs trace h;
+    one_result = λ lists all. one_of_rank (explained_heard trace lists all) o allowed;
+    first_rebuilt = λ lists all rebuildable. first_rebuilt stage trace at lists all;
+    reports_answered = answered;
+    ends = ends;
+  }
+
+  -- so it does wherever a history stands, and there a run that compares asks for what the law says
+  law_where_it_stands : (now : Now T) (trace : GroupTrace T) → StandsAt g now trace → EachAnswered trace → EndsWell trace →
+      HistoryLaw (protocol g) trace × AsksNow g.lo g.hi now trace
+  law_where_it_stands (going (StillComparing run)) trace after answered ends = (
+    law_of_run (StillComparing run) trace after answered ends,
+    record { from_lo = after.from_lo; to_hi = after.to_hi; target_is = sym (target_asked after) },
+  )
+  law_where_it_stands (going (NowClosing run)) trace closed answered ends = (law_of_run (NowClosing run) trace closed answered ends, tt)
+  law_where_it_stands over trace at answered ends = (law_of_run at.0 trace at.1 answered ends, tt)
+
+  module _ (sample : T) (start : Run T Comparing) (new : round_of start.progress ≡ opened_round g.declared g.lo g.hi g.k) where
+    -- where a history stands, its run stands to its trace
+    stands : {trace : GroupTrace T} {now : Now T} → History g.place g.lowest g.highest sample start trace now →
+        StandsAt g now trace
+    stands h = stands_at allowed sample start new h
+
+    -- each report of a history is answered as the law says
+    reports_answered : {trace : GroupTrace T} {now : Now T} → History g.place g.lowest g.highest sample start trace now → EachAnswered trace
+    reports_answered opened = tt
+    reports_answered (report {past = past} number counts answer h r) =
+        (report_answered each allowed past (stands h) number counts answer r.0, reports_answered h)
+    reports_answered (step stock result h s) = reports_answered h
+    reports_answered (finish handed h f) = reports_answered h
+    reports_answered (break_off count h b) = reports_answered h
+
+    -- and the history ends as the law says
+    ends_well : {trace : GroupTrace T} {now : Now T} → History g.place g.lowest g.highest sample start trace now → EndsWell trace
+    ends_well opened = tt
+    ends_well (report number counts answer h r) = tt
+    ends_well (step stock result h s) = tt
+    ends_well (finish {past = past} handed h f) =
+        finish_lawful o agrees past each allowed (stands h) sample handed.result handed.count f.element f.count
+    ends_well (break_off {past = past} {stage = stage} count h b) = b ∙ made_told g stage past (stands h)
+
+    -- so it keeps the law
+    history_keeps_law : (trace : GroupTrace T) (now : Now T) → History g.place g.lowest g.highest sample start trace now →
+        HistoryLaw (protocol g) trace × AsksNow g.lo g.hi now trace
+    history_keeps_law trace now h = law_where_it_stands now trace (stands h) (reports_answered h) (ends_well h)
+
+-- every history of the run of a group keeps the law
+pub histories_keep_law : {T : Type 0} {before : T → T → Bool} (sample : T) (place : T → ℕ) (lowest highest : ℕ) → Trichotomy before → Transitive before →
+    PlacesAgree before place → OneElementEach place lowest highest → highest < 2 ^ 64 → (declared : List ℕ) (lo hi rank : ℕ)
+    (result : Result (Run T Comparing × Slip OfGroup) RunFault) → Opens lowest highest declared lo hi rank result →
+    HistoriesKeepLaw before sample place lowest highest declared lo hi rank result
+histories_keep_law sample place lowest highest one steps agrees each small declared lo hi rank (Err fault) opens = tt
+histories_keep_law {before = before} sample place lowest highest one steps agrees each small declared lo hi rank (Ok run) opens =
+    let g : Group _
+    = record { before = before; place = place; lowest = lowest; highest = highest; declared = declared; lo = lo; hi = hi; k = rank } in
+    history_keeps_law {g = g} (record { trichotomy = one; transitive = steps }) agrees each (opening_allowed g small opens.0) sample run.0 opens.1

@@ -1,0 +1,15 @@
+pub mod Openings
+pub mod Numbers
+pub mod Telling
+pub mod OneSeat
+pub mod Standing
+pub mod Answering
+pub mod Reporting
+pub mod Explaining
+pub mod Gathering
+pub mod Stepping
+pub mod Closing
+pub mod Judging
+pub mod Finishing
+pub mod Histories
+pub mod Keeping

@@ -1,0 +1,2 @@
+pub mod GroupProtocol
+pub mod GroupHistories

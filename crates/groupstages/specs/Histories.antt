@@ -1,0 +1,46 @@
+-- Histories of calls on the run of a group, built from what the contracts of the calls say.
+use Rattle.std.specs.Prelude.{ℕ, [], ◌∷◌, Result}
+use Rattle.faults.specs.declared.fault.RunFault.{RunFault}
+use Rattle.referees.specs.declared.verdict.GroupVerdict.{GroupVerdict}
+use Rattle.runs.specs.Traces.{reported, stepped, finished, broken_off, Trace}
+use Rattle.runs.specs.declared.finished.Finished.{Finished}
+use Rattle.weighings.specs.declared.counts.Counts.{Counts}
+use Rattle.groupstages.specs.Calls.{Reports, Steps, Finishes, BreaksOff, progress_of, step_answer}
+use Rattle.groupstages.specs.declared.stages.Closing.{Closing as ClosingStage}
+use Rattle.groupstages.specs.declared.stages.Comparing.{Comparing as ComparingStage}
+use Rattle.groupstages.specs.declared.stages.Run.{Run}
+use Rattle.groupstages.specs.declared.stages.Stage.{Stage}
+use Rattle.groupstages.specs.declared.stages.Stage.TheVariants.{Comparing, Closing}
+use Rattle.groupstages.specs.declared.stages.Stepped.{Stepped}
+use Rattle.groupstages.specs.declared.stages.Stepped.TheVariants.{Told, Refused}
+
+-- a group's traces: its seats are told by numbers from 1, and report counts
+abbrev pub GroupTrace : Type 0 → Type 0
+GroupTrace T = Trace ℕ Counts GroupVerdict T
+
+-- where a history stands: at a run, or past its end
+pub data Now (T : Type 0) : Type 0 where
+  going : Stage T → Now T
+  over : Now T
+
+abbrev pub step_leaves : {T : Type 0} → Stepped T → Stage T
+step_leaves (Told verdict stage) = stage
+step_leaves (Refused fault run) = Comparing run
+
+-- A history of a run just opened, with its trace and where it stands. Each call is given the run as the one before left it,
+-- and answers and leaves what its contract says, refused or not; at each the referee, whichever it is, has any stock. A finish
+-- or a break-off ends it. The type's places are told by the place of an element, the lowest and the highest.
+pub data History {T : Type 0} (place : T → ℕ) (lowest highest : ℕ) (sample : T) (start : Run T ComparingStage) : GroupTrace T → Now T → Type 0 where
+  opened : History place lowest highest sample start [] (going (Comparing start))
+  report : {past : GroupTrace T} {run left : Run T ComparingStage} (number : ℕ) (counts : Counts) (answer : Result (Unit {0}) RunFault) →
+      History place lowest highest sample start past (going (Comparing run)) → Reports number counts run.progress answer left.progress →
+      History place lowest highest sample start (reported number counts answer ∷ past) (going (Comparing left))
+  step : {past : GroupTrace T} {run : Run T ComparingStage} (stock : ℕ) (result : Stepped T) →
+      History place lowest highest sample start past (going (Comparing run)) → Steps run stock result →
+      History place lowest highest sample start (stepped (step_answer result) ∷ past) (going (step_leaves result))
+  finish : {past : GroupTrace T} {run : Run T ClosingStage} (handed : Finished T) →
+      History place lowest highest sample start past (going (Closing run)) → Finishes place lowest highest sample run.progress handed →
+      History place lowest highest sample start (finished handed.result handed.count ∷ past) over
+  break_off : {past : GroupTrace T} {stage : Stage T} (count : ℕ) →
+      History place lowest highest sample start past (going stage) → BreaksOff (progress_of stage) count →
+      History place lowest highest sample start (broken_off count ∷ past) over

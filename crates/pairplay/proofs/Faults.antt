@@ -1,0 +1,81 @@
+-- A play that ends with a fault: of a refused list, or of an empty stock.
+use Rattle.std.proofs.Common.{◌≡◌, ℕ, Bool, List, None, Ok, Err, Result, inl, inr, subst, arith}
+use Rattle.std.proofs.lemmas.Bool.{cases_lt}
+use Rattle.elements.specs.Entries.{lesser_entry}
+use Rattle.elements.specs.declared.entry.Entry.{Entry}
+use Rattle.faults.specs.declared.fault.RunFault.{RunFault}
+use Rattle.referees.specs.Verdicts.{first_of}
+use Rattle.referees.specs.declared.verdict.PairVerdict.{PairVerdict}
+use Rattle.bisections.specs.declared.side.Side.{Side}
+use Rattle.bisections.specs.declared.side.Side.TheVariants.{A, B}
+use Rattle.runs.specs.Answers.{asked}
+use Rattle.pairstages.specs.Calls.{reports_of, progress_of}
+use Rattle.pairstages.specs.declared.progress.Progress.{Progress}
+use Rattle.pairstages.specs.declared.stages.Closing.{Closing}
+use Rattle.pairstages.specs.declared.stages.Comparing.{Comparing}
+use Rattle.pairstages.specs.declared.stages.Ending.TheVariants.{Refused as NotEnded}
+use Rattle.pairstages.specs.declared.stages.OfPair.{OfPair}
+use Rattle.pairstages.specs.declared.stages.Run.{Run}
+use Rattle.pairstages.specs.declared.stages.Stage.{Stage}
+use Rattle.pairstages.specs.declared.stages.Stage.TheVariants.{Comparing as StillComparing, Closing as NowClosing}
+use Rattle.pairstages.specs.declared.stages.Stepped.TheVariants.{Refused}
+use Rattle.runs.specs.declared.slip.Slip.{Slip}
+use Rattle.seats.specs.Lists.{IsListRefusal}
+use Rattle.pairplay.specs.Outcomes.{Plays}
+use Rattle.pairplay.specs.Rounds.{Compares, Closes, ReportsBoth}
+use Rattle.pairplay.proofs.Coming.{comes_refused, comes_unrefused, refused_of_both}
+use Rattle.pairplay.proofs.Refusals.{not_both}
+use Rattle.pairplay.proofs.Reporting.{RefusesOne, accepted_reports, refused_reports}
+use Rattle.pairplay.proofs.Standing.{Stands}
+
+module _ {T : Type 0} (before : T → T → Bool) (lists : Side → List T) (answer : Result (Unit {0}) RunFault) where
+  -- no list is refused where none is
+  none_refused : RefusesOne before lists answer → ((side : Side) → IsListRefusal before (lists side) None) → ⊥
+  none_refused (inl a) unrefused = not_both before (lists A) a.0 a.1 (unrefused A)
+  none_refused (inr (none, b)) unrefused = not_both before (lists B) b.0 b.1 (unrefused B)
+
+module _ {T : Type 0} {before : T → T → Bool} {sample : T} {lists : Side → List T} {k : ℕ} {start : Stage T} where
+  module _ {stage : Stage T} {stock left made : ℕ} {log : List PairVerdict}
+      (stands : Stands before sample lists k start stage stock left made log) where
+    -- a refused list ends a play as is promised, before any verdict
+    fault_of_list : (fault : RunFault) → RefusesOne before lists (Err fault) → Plays before lists k stock left log (Err fault)
+    fault_of_list fault refused = elim (cases_lt 0 made) [
+      | inl some ↦ absurd (none_refused before lists (Err fault) refused (stands.unrefused some))
+      | inr none ↦
+          let all : stock ≡ left = omega (arith, stands.paid) in
+          subst (λ (n : ℕ). Plays before lists k stock n log (Err fault)) all
+          (comes_refused stands.opened.order lists k stock log stands.opened.allowed fault refused)
+    ]
+
+    -- so does a fault of a round's reports, which is that of a refused list
+    fault_of_reports : (told fault : RunFault) → told ≡ fault → (progress : Progress T) →
+        ReportsBoth before lists (progress_of stage) (Err told) progress → Plays before lists k stock left log (Err fault)
+    fault_of_reports told fault same progress reports =
+        subst (λ (f : RunFault). Plays before lists k stock left log (Err f)) same
+        (fault_of_list told (refused_reports stands.opened stands.not_yet progress stands.honestly told reports))
+
+    -- and an empty stock, after no more verdicts than the rank has halvings
+    fault_of_stock : {Y : Type 0} (truth : Entry T × Entry T → Y) (u : Unit {0}) (progress : Progress T) →
+        ReportsBoth before lists (progress_of stage) (Ok u) progress → (fault : RunFault) →
+        asked truth (reports_of progress) left ≡ Err fault → Plays before lists k stock left log (Err fault)
+    fault_of_stock truth u progress reports fault e =
+        let both = accepted_reports stands.opened stands.not_yet progress stands.honestly u reports in
+        let empty = refused_of_both truth (progress_of stage) progress both.a both.b both.left_is left fault e in
+        comes_unrefused stands.opened.order lists k stock log stands.opened.allowed both.unrefused left (Err fault)
+        (empty.0, omega (arith, empty.1, stands.paid, stands.all_rounds))
+
+  module _ {stock left made : ℕ} {log : List PairVerdict} (fault : RunFault) {rest : ℕ} (same : rest ≡ left) where
+    -- so a round that comes to a fault ends a play as is promised
+    pub fault_of_round : {run back : Run T Comparing} → Stands before sample lists k start (StillComparing run) stock left made log →
+        Compares before lists run left (Refused fault back) → Plays before lists k stock rest log (Err fault)
+    fault_of_round stands (progress, Err told, reports, e) = rw same (fault_of_reports stands told fault (cc) progress reports)
+    fault_of_round stands (progress, Ok u, reports, e) =
+        rw same (fault_of_stock stands (λ given. first_of before given.0 given.1) u progress reports fault e.0)
+
+    -- and the last round does
+    pub fault_of_last : {run back : Run T Closing} {slip returned : Slip OfPair} →
+        Stands before sample lists k start (NowClosing run) stock left made log →
+        Closes before sample lists run slip left (NotEnded fault back returned) → Plays before lists k stock rest log (Err fault)
+    fault_of_last stands (progress, Err told, reports, e) = rw same (fault_of_reports stands told fault (cc) progress reports)
+    fault_of_last stands (progress, Ok u, reports, e) =
+        rw same (fault_of_stock stands (λ given. lesser_entry before given.0 given.1) u progress reports fault e.0)

@@ -1,0 +1,10 @@
+pub mod Refusals
+pub mod Honesty
+pub mod Reporting
+pub mod Coming
+pub mod Openings
+pub mod Standing
+pub mod Verdicts
+pub mod Results
+pub mod Faults
+pub mod Noting

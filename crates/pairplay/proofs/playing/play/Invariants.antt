@@ -1,0 +1,16 @@
+use Rattle.pairstages.specs.Calls.{progress_of}
+use Rattle.pairplay.specs.Outcomes.{lists_of, KeepsRest}
+use Rattle.pairplay.proofs.Standing.{Stands}
+use Rattle.pairplay.proofs.playing.play.Given as goal
+
+-- between rounds the play stands as honest seats leave it, and the log past the verdicts made is as it was
+abbrev pub invariant-loop-stage : goal.invariant-loop-stage
+invariant-loop-stage g l = record {
+  stands : Stands g.T.Ordered.before g.T.Ordered.sample (lists_of l.a l.b) l.rank l.initial.stage l.stage (g.R.Referee.stock l.initial.referee)
+      (g.R.Referee.stock l.referee) l.made l.log;
+  keeps : KeepsRest l.made l.initial.log l.log;
+}
+
+-- and its window gets smaller
+abbrev pub decreases-loop-stage : goal.decreases-loop-stage
+decreases-loop-stage g l = (progress_of l.stage).window.size

@@ -1,0 +1,69 @@
+-- What honest seats of a pair come to.
+use Rattle.std.specs.Prelude.{◌≡◌, ℕ, ◌+◌, ◌-◌, ◌^◌, ◌≤◌, min, Bool, List, length, take, drop, Some, None, Ok, Err, Option, Result}
+use Rattle.faults.specs.declared.fault.RunFault.{RunFault}
+use Rattle.faults.specs.declared.fault.RunFault.TheVariants.{OfSeat, Own}
+use Rattle.faults.specs.declared.fault.SeatFault.TheVariants.{Own as OwnSeat}
+use Rattle.faults.specs.declared.fault.Seat.TheVariants as Seats
+use Rattle.faults.specs.declared.refusal.Refusal.{Refusal}
+use Rattle.ranks.specs.Ranks.{Ranked}
+use Rattle.referees.specs.Questions.{out_of_stock}
+use Rattle.referees.specs.declared.verdict.PairVerdict.{PairVerdict}
+use Rattle.bisections.specs.Laws.{AllDifferent, IsCeilLog2}
+use Rattle.bisections.specs.Rebuilds.{rebuilt}
+use Rattle.bisections.specs.Rows.{halvings}
+use Rattle.bisections.specs.Windows.{OfSides, joint_pair}
+use Rattle.bisections.specs.declared.side.Side.{Side}
+use Rattle.bisections.specs.declared.side.Side.TheVariants.{A, B}
+use Rattle.pairstages.specs.Calls.{opening_refusal}
+use Rattle.runs.specs.declared.finished.Finished.{Finished}
+use Rattle.seats.specs.Lists.{IsListRefusal}
+
+-- the lists by side
+abbrev pub lists_of : {T : Type 0} → List T → List T → Side → List T
+lists_of a b A = a
+lists_of a b B = b
+
+-- a list's length as a run is told it
+abbrev pub told_length : {T : Type 0} → List T → ℕ
+told_length xs = min (length xs) (2 ^ 32 - 1)
+
+-- the lengths as they are declared
+abbrev pub told_lengths : {T : Type 0} → (Side → List T) → OfSides
+told_lengths lists side = told_length (lists side)
+
+module _ {T : Type 0} (before : T → T → Bool) (lists : Side → List T) (rank : ℕ) where
+  -- The result is the element of the rank of both lists, found by the logarithm of the rank, rounded up, of verdicts; these
+  -- stand at the log's start, and where all elements are different each seat rebuilds them from its list and the result.
+  pub record Finds (log : List PairVerdict) (finished : Finished T) : Type 0 where
+    pub result : Ranked before rank (joint_pair lists) finished.result
+    pub count : IsCeilLog2 rank finished.count
+    pub verdicts : AllDifferent (joint_pair lists) → finished.count ≤ length log → (side : Side) →
+        rebuilt before side rank (lists side) finished.result ≡ take finished.count log
+
+  -- with a stock that lasts for every verdict and for the result the element is found, at the cost of a question for each; with
+  -- a smaller one the referee refuses
+  abbrev pub FindsBy : (stock left : ℕ) → List PairVerdict → Result (Finished T) RunFault → Type 0
+  FindsBy stock left log (Ok finished) = (stock ≡ left + finished.count + 1) × Finds log finished
+  FindsBy stock left log (Err fault) = (fault ≡ out_of_stock) × (stock ≤ halvings rank)
+
+  -- what there is to refuse decides in this order: the opening, A's list, B's list, the stock
+  abbrev pub Comes : (opening of_a of_b : Option Refusal) → (stock left : ℕ) → List PairVerdict → Result (Finished T) RunFault → Type 0
+  Comes (Some refusal) of_a of_b stock left log result = (result ≡ Err (Own refusal None)) × (left ≡ stock)
+  Comes None (Some refusal) of_b stock left log result = (result ≡ Err (OfSeat (OwnSeat refusal (Some Seats.A)))) × (left ≡ stock)
+  Comes None None (Some refusal) stock left log result = (result ≡ Err (OfSeat (OwnSeat refusal (Some Seats.B)))) × (left ≡ stock)
+  Comes None None None stock left log result = FindsBy stock left log result
+
+  abbrev pub Plays : (stock left : ℕ) → List PairVerdict → Result (Finished T) RunFault → Type 0
+  Plays stock left log result =
+      (of_a : Option Refusal) × IsListRefusal before (lists A) of_a × ((of_b : Option Refusal) × IsListRefusal before (lists B) of_b
+      × Comes (opening_refusal (told_lengths lists) rank) of_a of_b stock left log result)
+
+-- a log past so many verdicts is as it was
+pub record KeepsRest (made : ℕ) (old new : List PairVerdict) : Type 0 where
+  pub same_length : length new ≡ length old
+  pub rest : drop made new ≡ drop made old
+
+-- Only the verdicts made are noted: as many as a found result counts, and else as many as the stock has fallen by.
+abbrev pub NotesVerdicts : {T : Type 0} → (stock left : ℕ) → (old new : List PairVerdict) → Result (Finished T) RunFault → Type 0
+NotesVerdicts stock left old new (Ok finished) = KeepsRest finished.count old new
+NotesVerdicts stock left old new (Err fault) = KeepsRest (stock - left) old new

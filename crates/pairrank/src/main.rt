@@ -1,0 +1,43 @@
+//! Reads a rank and the sheets of two seats from standard input, finds the element of the rank by the run of a pair, and prints
+//! the verdicts, the result and the count, or why there is none.
+#![tactic(auto)]
+
+use elements::delay::Delay;
+use elements::ordered::Ordered;
+use referees::verdict::PairVerdict;
+use requests::answering::answer;
+use std::io::Read;
+
+/// So many bytes of the input are looked at.
+const MOST_BYTES: u64 = 60_000;
+
+/// More elements than so many bytes hold.
+const MOST_ELEMENTS: usize = 15_000;
+
+/// More verdicts than any run makes.
+const MOST_VERDICTS: usize = 32;
+
+fn main(rt: HostRuntime) -> anyhow::Result<()> {
+    let heap = rt.alloc();
+    let mut bytes = Vec::new(heap);
+    rt.stdin().take(MOST_BYTES).read_to_end(&mut bytes)?;
+    let mut a = vec![in heap; Delay::some(); MOST_ELEMENTS]?;
+    let mut b = vec![in heap; Delay::some(); MOST_ELEMENTS]?;
+    let mut log = [PairVerdict::NotBefore; MOST_VERDICTS];
+    match answer(&bytes, &mut a, &mut b, &mut log) {
+        Err(fault) => println!(rt; "{fault}")?,
+        Ok(finished) => {
+            print!(rt; "verdicts ")?;
+            if finished.count == 0 {
+                print!(rt; "-")?;
+            }
+            for verdict in log.iter().take(finished.count as usize) {
+                print!(rt; "{verdict}")?;
+            }
+            let result = finished.result;
+            let count = finished.count;
+            println!(rt; "\nresult {result}\ncount {count}")?;
+        }
+    }
+    Ok(())
+}

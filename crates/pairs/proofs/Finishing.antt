@@ -1,0 +1,67 @@
+-- An accepted finish gives what the law says: the element of the rank asked for, and the number of verdicts.
+use Rattle.std.proofs.Common.{◌≡◌, ℕ, ◌+◌, Bool, List, sym, ◌∙◌, subst, arith}
+use Rattle.elements.specs.Entries.{lesser_entry}
+use Rattle.elements.specs.Orders.{IsOrder}
+use Rattle.elements.specs.declared.entry.Entry.{Entry}
+use Rattle.ranks.specs.Ranks.{Ranked}
+use Rattle.bisections.specs.Exchanges.{with_round, Accepted, finished}
+use Rattle.bisections.specs.Laws.{IsCeilLog2, ExplainBoth, FinishedIsBisection}
+use Rattle.bisections.specs.Reports.{Report, Explains}
+use Rattle.bisections.specs.Rows.{halvings}
+use Rattle.bisections.specs.Windows.{OfSides, joint_pair}
+use Rattle.bisections.specs.declared.side.Side.{Side}
+use Rattle.bisections.specs.declared.side.Side.TheVariants.{A, B}
+use Rattle.bisections.proofs.Finishing.{finished_is_bisection}
+use Rattle.bisections.proofs.Logarithms.{halvings_are_log}
+use Rattle.runs.specs.HistoryLaw.{ExplainAll, Finishes}
+use Rattle.runs.specs.Traces.{verdicts}
+use Rattle.windows.specs.Windows.{offset_of}
+use Rattle.pairstages.specs.Calls.{element_of, BreaksOff}
+use Rattle.pairstages.specs.Histories.{PairTrace}
+use Rattle.pairstages.specs.declared.progress.Progress.{Progress}
+use Rattle.pairs.specs.PairProtocol.{pair_protocol}
+use Rattle.pairs.proofs.Answering.{GaveBoth}
+use Rattle.pairs.proofs.Explaining.{rebuilds_bisection}
+use Rattle.pairs.proofs.Openings.{Allowed}
+use Rattle.pairs.proofs.Standing.{After, given_is, passing_keeps_rules}
+
+module _ {T : Type 0} {before : T → T → Bool} (o : IsOrder before) (sample : T) {declared : OfSides} {k : ℕ} (allowed : Allowed declared k)
+    (trace : PairTrace T) {progress : Progress T} (after : After before declared k 0 progress trace) {lesser : Entry T}
+    (both : GaveBoth (λ given. lesser_entry before given.0 given.1) progress lesser) where
+  -- the reports of a run at size 1, the last ones too
+  abbrev told_last : Side → List (Report T)
+  told_last = with_round after.older (λ side. offset_of side progress.window + 1) both.entries
+
+  -- they finish an exchange, which is the bisection over every two lists that explain it
+  finished_so : FinishedIsBisection before k declared told_last (verdicts trace) (lesser_entry before (both.entries A) (both.entries B))
+  finished_so =
+      let accepted : Accepted before k declared after.older (λ side. offset_of side progress.window + 1) both.entries
+      = λ side. passing_keeps_rules o (after.kept side) (both.entries side) (given_is (after.kept side) (both.given side)).2 in
+      finished_is_bisection o sample k declared allowed.from_1 allowed.up_to_all told_last (verdicts trace)
+      (lesser_entry before (both.entries A) (both.entries B)) (finished both.entries after.exchange accepted)
+
+  -- lists that explain the reports of the history explain that exchange
+  explain_finished : (lists : Side → List T) → ExplainAll (pair_protocol before declared k) lists trace →
+      ExplainBoth before k declared told_last lists
+  explain_finished lists e side =
+      subst (λ (reports : List (Report T)). Explains before side k (declared side) reports (lists side))
+      (given_is (after.kept side) (both.given side)).0 (e.each side tt)
+
+  -- the lesser of the last entries is the element of the rank asked for
+  result_has_rank : (lists : Side → List T) → ExplainAll (pair_protocol before declared k) lists trace →
+      Ranked before k (joint_pair lists) (element_of sample lesser)
+  result_has_rank lists e =
+      let w = finished_so.result_is lists (explain_finished lists e) in
+      subst (λ (entry : Entry T). Ranked before k (joint_pair lists) (element_of sample entry)) (sym w.1 ∙ both.true_answer) w.2
+
+  -- so the finish is lawful
+  pub finish_lawful : (count : ℕ) → BreaksOff progress count → Finishes (pair_protocol before declared k) (element_of sample lesser) count trace
+  finish_lawful count b =
+      let all : count ≡ halvings k = omega (arith, b, after.made_is, after.led.rounds) in
+      record {
+        result_is = result_has_rank;
+        count_is = b ∙ after.made_is;
+        count_fits = subst (IsCeilLog2 k) (sym all) (halvings_are_log k);
+        all_rebuilt = λ lists e apart x r side seated.
+            rebuilds_bisection o trace lists e apart x r side ∙ sym (finished_so.verdicts_are lists (explain_finished lists e));
+      }

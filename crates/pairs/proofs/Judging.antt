@@ -1,0 +1,113 @@
+-- A report is answered as the law says: out of its turn 13, and in its turn refused exactly if no list explains it.
+use Rattle.std.proofs.Common.{◌≡◌, ℕ, ◌≤◌, Bool, true, false, List, [], ◌∷◌, Some, None, Ok, Err, Option, Result, sym, refl, ◌∙◌, subst, arith}
+use Rattle.std.specs.List.{AllByRecursion as Each}
+use Rattle.std.proofs.lemmas.Bool.{both_ways, cond_both}
+use Rattle.elements.specs.Orders.{IsOrder}
+use Rattle.elements.specs.declared.entry.Entry.{Entry}
+use Rattle.faults.specs.declared.fault.RunFault.{RunFault}
+use Rattle.bisections.specs.Reports.{Report, Explains, Consistent}
+use Rattle.bisections.specs.Rows.{row, entry_at}
+use Rattle.bisections.specs.Windows.{OfSides}
+use Rattle.bisections.specs.declared.side.Side.{Side}
+use Rattle.bisections.proofs.Explaining.{some_list_explains, explained_consistent}
+use Rattle.runs.specs.HistoryLaw.{with_report, Honest, Answered}
+use Rattle.runs.specs.Traces.{reported, stepped, finished, not_finished, broken_off, verdicts, has_reported, EachIs}
+use Rattle.windows.specs.Windows.{offset_of}
+use Rattle.pairstages.specs.Calls.{Reports}
+use Rattle.pairstages.specs.Halves.{half_of}
+use Rattle.pairstages.specs.Histories.{PairTrace}
+use Rattle.pairstages.specs.declared.progress.Progress.{Progress}
+use Rattle.pairs.specs.PairProtocol.{same_side, asked, honest, pair_protocol}
+use Rattle.pairs.proofs.Answering.{answer_by}
+use Rattle.pairs.proofs.Asking.{asked_by_window}
+use Rattle.pairs.proofs.Standing.{at_asked, After, heard_of, same_newest, given_is, test, test_is, passing_is_consistent, consistent_passes, heard_consistent}
+
+module _ {T : Type 0} (before : T → T → Bool) (declared : OfSides) (k : ℕ) (side : Side) (xs : List T) where
+  -- the row of an honest side's list shows each report of the side
+  own_list_shows : (trace : PairTrace T) → EachIs same_side (honest before declared k side xs) side trace →
+      Each (λ r. entry_at (row side k xs) r.place ≡ r.entry) (heard_of before declared k trace side)
+  own_list_shows [] h = tt
+  own_list_shows (reported other e (Ok u) ∷ past) h =
+      let earlier = heard_of before declared k past side in
+      let told : Report T = record { place = asked k side (verdicts past); entry = e } in
+      let shown = own_list_shows past h.1 in
+      cond_both (same_side side other) (told ∷ earlier) earlier (Each (λ r. entry_at (row side k xs) r.place ≡ r.entry))
+      (λ same. (sym (h.0 same), shown)) (λ another. shown)
+  own_list_shows (reported other e (Err fault) ∷ past) h = own_list_shows past h
+  own_list_shows (stepped answer ∷ past) h = own_list_shows past h
+  own_list_shows (finished result count ∷ past) h = own_list_shows past h
+  own_list_shows (not_finished fault ∷ past) h = own_list_shows past h
+  own_list_shows (broken_off count ∷ past) h = own_list_shows past h
+
+  -- so an honest side's list explains its reports
+  pub own_list_explains : (trace : PairTrace T) → Honest (pair_protocol before declared k) side xs trace →
+      Explains before side k (declared side) (heard_of before declared k trace side) xs
+  own_list_explains trace h = record { declared = h.fit.0; in_order = h.fit.1; shows = own_list_shows trace h.reports }
+
+module _ {T : Type 0} {before : T → T → Bool} (o : IsOrder before) (sample : T) {declared : OfSides} {k : ℕ} (trace : PairTrace T) {j : ℕ}
+    {progress : Progress T} (after : After before declared k j progress trace) (side : Side) (e : Entry T) where
+  -- a side's reports with one more
+  abbrev with_this : List (Report T)
+  with_this = with_report (pair_protocol before declared k) side e trace
+
+  -- where nothing was given in this round, that is a report at the place asked after those of earlier rounds
+  newly_told : (half_of side progress).given ≡ None → with_this ≡ at_asked (offset_of side progress.window) j e ∷ after.older side
+  newly_told none = same_newest e (asked_by_window after.led side) (given_is (after.kept side) none).0
+
+  -- a report that passes is explained by some list, with the earlier ones
+  passing_explained : (half_of side progress).given ≡ None → test before side progress e ≡ true →
+      (xs : List T) × Explains before side k (declared side) with_this xs
+  passing_explained none p =
+      let c = passing_is_consistent o (after.kept side) e (sym (test_is after side e) ∙ p) in
+      some_list_explains o side k (declared side) sample with_this (subst (Consistent before side k (declared side)) (sym (newly_told none)) c)
+
+  -- a report that some list explains with the earlier ones passes
+  explained_passes : (half_of side progress).given ≡ None → (xs : List T) → Explains before side k (declared side) with_this xs →
+      test before side progress e ≡ true
+  explained_passes none xs x =
+      let some : 1 ≤ asked k side (verdicts trace) = omega (arith, asked_by_window after.led side) in
+      let c = explained_consistent o side k (declared side) with_this (some, (heard_consistent o (after.kept side)).from_1) xs x in
+      test_is after side e ∙ consistent_passes o (after.kept side) e (subst (Consistent before side k (declared side)) (newly_told none) c)
+
+  -- an honest report is one that the side's list explains with the earlier ones
+  honest_explained : (xs : List T) → Honest (pair_protocol before declared k) side xs trace → e ≡ honest before declared k side xs (verdicts trace) →
+      Explains before side k (declared side) with_this xs
+  honest_explained xs h is =
+      let x = own_list_explains before declared k side xs trace h in
+      record { declared = x.declared; in_order = x.in_order; shows = (sym is, x.shows) }
+
+  -- the checks answer as the law says, by what was given in this round and whether the report passes
+  lawful_by_checks : (given : Option (Entry T)) (passing : Bool) → (half_of side progress).given ≡ given → test before side progress e ≡ passing →
+      Answered (pair_protocol before declared k) side e (answer_by side given passing) trace
+  lawful_by_checks (Some earlier) passing g p = record {
+    in_turn = λ turn. absurd (both_ways (has_reported same_side side trace) turn.not_yet (given_is (after.kept side) g).1);
+    out_of_turn = λ not_its. refl;
+  }
+  lawful_by_checks None true g p = record {
+    in_turn = λ turn. record {
+      accepted_or_impossible = λ refused. absurd (refused refl);
+      refused_unexplained = λ refused xs x. refused refl;
+      unexplained_refused = λ none accepted. (let w = passing_explained g p in none w.0 w.1);
+      honest_accepted = λ xs h is. refl;
+    };
+    out_of_turn = λ not_its. absurd (not_its (record { seated = tt; not_yet = (given_is (after.kept side) g).1 }));
+  }
+  lawful_by_checks None false g p =
+      let unexplained : (xs : List T) → Explains before side k (declared side) with_this xs → ⊥
+      = λ xs x. both_ways (test before side progress e) p (explained_passes g xs x) in
+      record {
+        in_turn = λ turn. record {
+          accepted_or_impossible = λ refused. refl;
+          refused_unexplained = λ refused. unexplained;
+          unexplained_refused = λ none accepted. cc;
+          honest_accepted = λ xs h is. absurd (unexplained xs (honest_explained xs h is));
+        };
+        out_of_turn = λ not_its. absurd (not_its (record { seated = tt; not_yet = (given_is (after.kept side) g).1 }));
+      }
+
+  -- so a report is answered as the law says
+  pub report_answered : (answer : Result (Unit {0}) RunFault) (left : Progress T) → Reports before side e progress answer left →
+      Answered (pair_protocol before declared k) side e answer trace
+  report_answered answer left r =
+      subst (λ (a : Result (Unit {0}) RunFault). Answered (pair_protocol before declared k) side e a trace) (sym r.0)
+      (lawful_by_checks (half_of side progress).given (test before side progress e) refl refl)

@@ -1,0 +1,12 @@
+pub mod Openings
+pub mod Answering
+pub mod Asking
+pub mod Standing
+pub mod Reporting
+pub mod Stepping
+pub mod Judging
+pub mod Explaining
+pub mod Finishing
+pub mod Staging
+pub mod Histories
+pub mod Keeping

@@ -1,0 +1,2 @@
+pub mod PairProtocol
+pub mod PairHistories

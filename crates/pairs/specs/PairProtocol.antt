@@ -1,0 +1,52 @@
+-- The protocol for two, in the terms of the history law.
+use Rattle.std.specs.Prelude.{◌≡◌, ℕ, ◌-◌, ◌^◌, Bool, true, false, List, length, reverse}
+use Rattle.elements.specs.Orders.{NeverFalls}
+use Rattle.elements.specs.declared.entry.Entry.{Entry}
+use Rattle.ranks.specs.Ranks.{Ranked}
+use Rattle.referees.specs.declared.verdict.PairVerdict.{PairVerdict}
+use Rattle.bisections.specs.Laws.{AllDifferent, IsCeilLog2}
+use Rattle.bisections.specs.Rebuilds.{rebuilt}
+use Rattle.bisections.specs.Reports.{Report, Explains}
+use Rattle.bisections.specs.Rows.{halvings, row, entry_at}
+use Rattle.bisections.specs.Sides.{seat_of}
+use Rattle.bisections.specs.Windows.{OfSides, offset_after, place_asked, joint_pair}
+use Rattle.bisections.specs.declared.side.Side.{Side}
+use Rattle.bisections.specs.declared.side.Side.TheVariants.{A, B}
+use Rattle.runs.specs.Protocols.{Protocol}
+
+abbrev pub same_side : Side → Side → Bool
+same_side A A = true
+same_side A B = false
+same_side B A = false
+same_side B B = true
+
+-- the place that a side is asked for after these verdicts, the newest first: that of the window to which they lead
+abbrev pub asked : (k : ℕ) → Side → List PairVerdict → ℕ
+asked k side verdicts = place_asked (offset_after side 0 (halvings k) (reverse verdicts)) (2 ^ (halvings k - length verdicts))
+
+module _ {T : Type 0} (before : T → T → Bool) (declared : OfSides) (k : ℕ) where
+  -- an honest seat's list has the declared length and never falls
+  abbrev pub Fit : Side → List T → Type 0
+  Fit side xs = (length xs ≡ declared side) × NeverFalls before xs
+
+  -- its honest report is its row's entry at the place asked
+  abbrev pub honest : Side → List T → List PairVerdict → Entry T
+  honest side xs verdicts = entry_at (row side k xs) (asked k side verdicts)
+
+  abbrev pub pair_protocol : Protocol Side (Entry T) PairVerdict T (Report T)
+  pair_protocol = record {
+    same = same_side;
+    Seated = λ side. Unit {0};
+    name = seat_of;
+    told = λ side verdicts entry. record { place = asked k side verdicts; entry = entry };
+    Explains = λ side reports xs. Explains before side k (declared side) reports xs;
+    Fit = Fit;
+    honest = honest;
+    Lists = Side → List T;
+    OneASeat = λ lists. Unit {0};
+    list_of = λ lists side. lists side;
+    IsResult = λ lists x. Ranked before k (joint_pair lists) x;
+    Rebuilds = λ side xs x verdicts. rebuilt before side k xs x ≡ verdicts;
+    Rebuildable = λ lists. AllDifferent (joint_pair lists);
+    Counts = λ count. IsCeilLog2 k count;
+  }

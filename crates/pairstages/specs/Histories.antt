@@ -1,0 +1,68 @@
+-- Histories of calls on the run of a pair, built from what the contracts of the calls say.
+use Rattle.std.specs.Prelude.{ℕ, Bool, [], ◌∷◌, Result}
+use Rattle.elements.specs.declared.entry.Entry.{Entry}
+use Rattle.faults.specs.declared.fault.RunFault.{RunFault}
+use Rattle.referees.specs.declared.verdict.PairVerdict.{PairVerdict}
+use Rattle.bisections.specs.declared.side.Side.{Side}
+use Rattle.runs.specs.Traces.{Event, reported, stepped, finished, not_finished, broken_off, Trace}
+use Rattle.runs.specs.declared.slip.Slip.{Slip}
+use Rattle.pairstages.specs.Calls.{Reports, Steps, Finishes, BreaksOff, progress_of, step_answer}
+use Rattle.pairstages.specs.declared.progress.Progress.{Progress}
+use Rattle.pairstages.specs.declared.stages.Closing.{Closing as ClosingStage}
+use Rattle.pairstages.specs.declared.stages.Comparing.{Comparing as ComparingStage}
+use Rattle.pairstages.specs.declared.stages.Ending.{Ending}
+use Rattle.pairstages.specs.declared.stages.Ending.TheVariants.{Finished, Refused as NotFinished}
+use Rattle.pairstages.specs.declared.stages.OfPair.{OfPair}
+use Rattle.pairstages.specs.declared.stages.Run.{Run}
+use Rattle.pairstages.specs.declared.stages.Stage.{Stage}
+use Rattle.pairstages.specs.declared.stages.Stage.TheVariants.{Comparing, Closing}
+use Rattle.pairstages.specs.declared.stages.Stepped.{Stepped}
+use Rattle.pairstages.specs.declared.stages.Stepped.TheVariants.{Told, Refused}
+
+-- a pair's traces: its seats are two sides, which report entries
+abbrev pub PairTrace : Type 0 → Type 0
+PairTrace T = Trace Side (Entry T) PairVerdict T
+
+abbrev pub PairEvent : Type 0 → Type 0
+PairEvent T = Event Side (Entry T) PairVerdict T
+
+-- where a history stands: at a run, or past its end
+pub data Now (T : Type 0) : Type 0 where
+  going : Stage T → Now T
+  over : Now T
+
+module _ {T : Type 0} where
+  -- the run in the same stage, so far come
+  abbrev pub with_progress : Progress T → Stage T → Stage T
+  with_progress progress (Comparing run) = Comparing (record { progress = progress; stage = run.stage })
+  with_progress progress (Closing run) = Closing (record { progress = progress; stage = run.stage })
+
+  abbrev pub step_leaves : Stepped T → Stage T
+  step_leaves (Told verdict stage) = stage
+  step_leaves (Refused fault run) = Comparing run
+
+  abbrev pub finish_event : Ending T → PairEvent T
+  finish_event (Finished handed) = finished handed.result handed.count
+  finish_event (NotFinished fault run slip) = not_finished fault
+
+  abbrev pub finish_leaves : Ending T → Now T
+  finish_leaves (Finished handed) = over
+  finish_leaves (NotFinished fault run slip) = going (Closing run)
+
+-- A history of a run just opened, with its trace and where it stands. Each call is given the run as the one before left it,
+-- and answers and leaves what its contract says, refused or not; at each the referee, whichever it is, has any stock. An
+-- accepted finish or a break-off ends it.
+pub data History {T : Type 0} (before : T → T → Bool) (sample : T) (start : Stage T) : PairTrace T → Now T → Type 0 where
+  opened : History before sample start [] (going start)
+  report : {past : PairTrace T} {stage : Stage T} (side : Side) (entry : Entry T) (answer : Result (Unit {0}) RunFault) (left : Progress T) →
+      History before sample start past (going stage) → Reports before side entry (progress_of stage) answer left →
+      History before sample start (reported side entry answer ∷ past) (going (with_progress left stage))
+  step : {past : PairTrace T} {run : Run T ComparingStage} (stock : ℕ) (result : Stepped T) →
+      History before sample start past (going (Comparing run)) → Steps before run stock result →
+      History before sample start (stepped (step_answer result) ∷ past) (going (step_leaves result))
+  finish : {past : PairTrace T} {run : Run T ClosingStage} (slip : Slip OfPair) (stock : ℕ) (result : Ending T) →
+      History before sample start past (going (Closing run)) → Finishes before sample run slip stock result →
+      History before sample start (finish_event result ∷ past) (finish_leaves result)
+  break_off : {past : PairTrace T} {stage : Stage T} (count : ℕ) →
+      History before sample start past (going stage) → BreaksOff (progress_of stage) count →
+      History before sample start (broken_off count ∷ past) over

@@ -1,0 +1,3 @@
+pub mod Halves
+pub mod Calls
+pub mod Histories

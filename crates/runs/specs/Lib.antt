@@ -1,0 +1,4 @@
+pub mod Answers
+pub mod Traces
+pub mod Protocols
+pub mod HistoryLaw

@@ -1,0 +1,4 @@
+pub mod Seated
+pub mod After
+pub mod Idle
+pub mod Gathering

@@ -1,0 +1,52 @@
+-- The entry of a row at a place, by the sort that the place has.
+use Rattle.std.proofs.Common.{◌≡◌, ℕ, ◌-◌, ◌≤◌, List, length, get_or, sym, ◌∙◌, inl, inr, arith}
+use Rattle.elements.specs.declared.entry.Entry.TheVariants.{Below, Element, Above}
+use Rattle.referees.specs.declared.sort.Sort.TheVariants.{Below as BelowSort, Element as ElementSort, Above as AboveSort}
+use Rattle.bisections.specs.Rows.{belows, row, row_length, entry_at, sort_at}
+use Rattle.bisections.specs.declared.side.Side.{Side}
+use Rattle.bisections.proofs.Rows.{row_below, row_element, row_above, sort_cases}
+
+-- sorts that differ
+pub below_is_no_element : BelowSort ≡ ElementSort → ⊥
+below_is_no_element e = let z : ◌≡◌ {A = ℕ} 0 1 = cc in omega arith
+
+pub below_is_no_above : BelowSort ≡ AboveSort → ⊥
+below_is_no_above e = let z : ◌≡◌ {A = ℕ} 0 1 = cc in omega arith
+
+pub element_is_no_above : ElementSort ≡ AboveSort → ⊥
+element_is_no_above e = let z : ◌≡◌ {A = ℕ} 0 1 = cc in omega arith
+
+module _ {E : Type 0} (side : Side) (k : ℕ) (xs : List E) (place : ℕ) (from_1 : 1 ≤ place) where
+  -- a place whose sort is below has a below
+  pub below_there : sort_at side k (length xs) place ≡ BelowSort → entry_at (row side k xs) place ≡ Below
+  below_there e =
+      elim (sort_cases (belows side k) k (length xs) place) [
+        | inl s ↦ row_below (row_length k) (belows side k) k xs place from_1 s.0
+        | inr t ↦ elim t [
+          | inl s ↦ absurd (below_is_no_element (sym e ∙ s.2))
+          | inr s ↦ absurd (below_is_no_above (sym e ∙ s.1))
+        ]
+      ]
+
+  -- one whose sort is element has the element at its index past the belows
+  pub element_there : sort_at side k (length xs) place ≡ ElementSort → (d : E) →
+      entry_at (row side k xs) place ≡ Element (get_or xs (place - belows side k - 1) d)
+  element_there e d =
+      elim (sort_cases (belows side k) k (length xs) place) [
+        | inl s ↦ absurd (below_is_no_element (sym s.1 ∙ e))
+        | inr t ↦ elim t [
+          | inl s ↦ row_element (row_length k) (belows side k) k xs place (place - belows side k - 1) d (omega (arith, s.0)) (omega (arith, s.0, s.1)) (omega (arith, s.0, s.1))
+          | inr s ↦ absurd (element_is_no_above (sym e ∙ s.1))
+        ]
+      ]
+
+  -- and one whose sort is above has an above
+  pub above_there : sort_at side k (length xs) place ≡ AboveSort → entry_at (row side k xs) place ≡ Above
+  above_there e =
+      elim (sort_cases (belows side k) k (length xs) place) [
+        | inl s ↦ absurd (below_is_no_above (sym s.1 ∙ e))
+        | inr t ↦ elim t [
+          | inl s ↦ absurd (element_is_no_above (sym s.2 ∙ e))
+          | inr s ↦ row_above (row_length k) (belows side k) k xs place (place - belows side k - 1) (omega (arith, s.0)) (omega (arith, s.0))
+        ]
+      ]

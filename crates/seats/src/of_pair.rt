@@ -1,0 +1,38 @@
+ghost use Rattle.std.specs.Prelude.{◌≡◌, ◌≤◌, length};
+ghost use Rattle.seats.specs.Reports.{PairReport, row_entry};
+
+use crate::list::list_refusal;
+use bisections::side::Side;
+use elements::entry::Entry;
+use elements::ordered::Ordered;
+use faults::fault::SeatFault;
+use pairstages::stages::Run;
+use referees::sort::Sort;
+use windows::window::Window;
+
+/// The entry at the place that a window asks a side for, in the row of a list.
+fn row_entry<T: Ordered>(list: &[T], window: Window, side: Side) -> Entry<T>
+    requires { length list.now ≤ 65536 }
+    ensures { result ≡ row_entry side window list.now }
+{
+    let place = window.place_asked(side);
+    match window.sort_at(side, list.len() as u32, place) {
+        Sort::Below => Entry::Below,
+        Sort::Element => Entry::Element(list[(place - window.belows(side) - 1) as usize]),
+        Sort::Above => Entry::Above,
+    }
+}
+
+/// The honest report of a side's list at the place that a run asks it for: its row's entry there.
+pub fn report_of_pair<T: Ordered, S: Copy>(
+    list: &[T],
+    run: &Run<T, S>,
+    side: Side,
+) -> Result<Entry<T>, SeatFault>
+    ensures { PairReport T.Ordered.before side run.now.progress.window list.now result }
+{
+    match list_refusal(list) {
+        Some(refusal) => Err(SeatFault::Own(refusal, Some(side.into()))),
+        None => Ok(row_entry(list, run.window(), side)),
+    }
+}

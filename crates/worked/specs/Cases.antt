@@ -1,0 +1,144 @@
+-- The worked cases of both protocols as one table, which one computation tries.
+use Rattle.std.specs.Prelude.{◌≡◌, ℕ, zero, suc, ◌+◌, ◌-◌, ◌^◌, Bool, true, false, cond, not, ◌&&◌, List, [], ◌∷◌, map, ◌==◌, nat_lt}
+use Rattle.bisections.specs.Kept.{bounds_after, passes, widest}
+use Rattle.bisections.specs.Rebuilds.{rebuilt}
+use Rattle.bisections.specs.Windows.{pair_verdicts, pair_result}
+use Rattle.bisections.specs.declared.bounds.Bounds.{Bounds}
+use Rattle.bisections.specs.declared.side.Side.{Side}
+use Rattle.bisections.specs.declared.side.Side.TheVariants.{A, B}
+use Rattle.elements.specs.declared.entry.Entry.{Entry}
+use Rattle.elements.specs.declared.entry.Entry.TheVariants.{Below, Element, Above}
+use Rattle.referees.specs.Verdicts.{verdict_number}
+use Rattle.referees.specs.declared.verdict.GroupVerdict.{GroupVerdict}
+use Rattle.referees.specs.declared.verdict.GroupVerdict.TheVariants.{Lower, Higher, Done}
+use Rattle.referees.specs.declared.verdict.PairVerdict.{PairVerdict}
+use Rattle.referees.specs.declared.verdict.PairVerdict.TheVariants.{NotBefore}
+use Rattle.weighings.specs.Counting.{weighed, told_by}
+use Rattle.weighings.specs.Ranges.{target, from_after, to_after}
+use Rattle.weighings.specs.Seats.{keeps_rules}
+use Rattle.weighings.specs.declared.counts.Counts.{Counts}
+use Rattle.weighings.specs.declared.known.Known.{Known}
+
+-- A round of a group: the target and the verdict.
+pub record AtTarget : Type 0 where
+  pub at : ℕ
+  pub says : GroupVerdict
+
+pub data Case : Type 0 where
+  -- two lists, a rank, the verdicts as 1 and 0, and the result
+  pair : (a b : List ℕ) → (k : ℕ) → (verdicts : List ℕ) → (result : ℕ) → Case
+  -- the verdicts that a side rebuilds from its list and the result
+  rebuilds : Side → (xs : List ℕ) → (k x : ℕ) → (verdicts : List ℕ) → Case
+  -- at a window with this offset and size in a row for rank k, a list of declared length d, and these bounds: whether the entry x passes
+  reports : Side → (k d offset size : ℕ) → Bounds ℕ → (x : ℕ) → Bool → Case
+  -- lists of places within lo to hi, a rank, the rounds, and the result
+  group : (lists : List (List ℕ)) → (lo hi k : ℕ) → List AtTarget → (result : ℕ) → Case
+  -- whether counts keep the rules at the target of a to b, by what is known of their seat
+  counts : (a b : ℕ) → Known → Counts → Bool → Case
+  -- the first target from lo to hi
+  targets : (lo hi m : ℕ) → Case
+
+abbrev same_numbers : List ℕ → List ℕ → Bool
+same_numbers [] [] = true
+same_numbers [] (y ∷ ys) = false
+same_numbers (x ∷ xs) [] = false
+same_numbers (x ∷ xs) (y ∷ ys) = let rest = same_numbers xs ys in (x == y) && rest
+
+abbrev same_bit : Bool → Bool → Bool
+same_bit true b = b
+same_bit false b = not b
+
+abbrev same_verdict : GroupVerdict → GroupVerdict → Bool
+same_verdict Lower Lower = true
+same_verdict Lower Higher = false
+same_verdict Lower Done = false
+same_verdict Higher Lower = false
+same_verdict Higher Higher = true
+same_verdict Higher Done = false
+same_verdict Done Lower = false
+same_verdict Done Higher = false
+same_verdict Done Done = true
+
+abbrev is_element : ℕ → Entry ℕ → Bool
+is_element x Below = false
+is_element x (Element y) = x == y
+is_element x Above = false
+
+abbrev by_side : List ℕ → List ℕ → Side → List ℕ
+by_side a b A = a
+by_side a b B = b
+
+abbrev numbers : List PairVerdict → List ℕ
+numbers verdicts = map verdict_number verdicts
+
+-- the rounds of a judge from the range a to b are these, and the last target, where done is told, is m
+abbrev rounds_are : (ℕ → GroupVerdict) → (a b : ℕ) → List AtTarget → (m : ℕ) → Bool
+rounds_are judge a b [] m = false
+rounds_are judge a b (round ∷ []) m = (target a b == round.at) && (same_verdict (judge round.at) Done && (same_verdict round.says Done && (round.at == m)))
+rounds_are judge a b (round ∷ (next ∷ later)) m =
+    let rest = rounds_are judge (from_after round.says a b) (to_after round.says a b) (next ∷ later) m in
+    (target a b == round.at) && (same_verdict (judge round.at) round.says && (not (same_verdict round.says Done) && rest))
+
+abbrev pub holds : Case → Bool
+holds (pair a b k verdicts result) =
+    same_numbers (numbers (pair_verdicts nat_lt k (by_side a b))) verdicts && is_element result (pair_result nat_lt k (by_side a b))
+holds (rebuilds side xs k x verdicts) = same_numbers (numbers (rebuilt nat_lt side k xs x)) verdicts
+holds (reports side k d offset size bounds x ok) = same_bit (passes nat_lt side k d offset size bounds (Element x)) ok
+-- as the lists weigh, and as whoever knows the result alone tells
+holds (group lists lo hi k rounds result) =
+    rounds_are (weighed (λ x. x) k lists) lo hi rounds result && rounds_are (told_by result) lo hi rounds result
+holds (counts a b known given ok) = same_bit (keeps_rules a b known given) ok
+holds (targets lo hi m) = target lo hi == m
+
+abbrev all_hold : List Case → Bool
+all_hold [] = true
+all_hold (case ∷ cases) = let rest = all_hold cases in holds case && rest
+
+abbrev list_a : List ℕ
+list_a = 12 ∷ 40 ∷ 55 ∷ []
+
+abbrev list_b : List ℕ
+list_b = 20 ∷ 31 ∷ 70 ∷ []
+
+-- what A's reports leave its window at rank 4, where it reported 40 at place 2 and was told 0
+abbrev after_40 : Bounds ℕ
+after_40 = bounds_after A NotBefore (Element 40) widest
+
+abbrev three_seats : List (List ℕ)
+three_seats = (3 ∷ 9 ∷ []) ∷ (4 ∷ []) ∷ (9 ∷ 12 ∷ []) ∷ []
+
+abbrev at_target : ℕ → GroupVerdict → AtTarget
+at_target m verdict = record { at = m; says = verdict }
+
+abbrev known_of : (declared low high : ℕ) → Known
+known_of declared low high = record { declared = declared; low = low; high = high }
+
+abbrev counted : (below above : ℕ) → Counts
+counted below above = record { below = below; above = above }
+
+abbrev pub table : List Case
+table =
+    pair list_a list_b 1 [] 12
+    ∷ pair list_a list_b 3 (1 ∷ 0 ∷ []) 31
+    ∷ pair list_a list_b 4 (0 ∷ 1 ∷ []) 40
+    ∷ pair list_a list_b 6 (1 ∷ 0 ∷ 1 ∷ []) 70
+    ∷ pair [] list_b 2 (0 ∷ []) 31
+    -- equal elements: A rebuilds what was told, and B does not
+    ∷ pair (31 ∷ []) (31 ∷ []) 2 (0 ∷ []) 31
+    ∷ rebuilds A (31 ∷ []) 2 31 (0 ∷ [])
+    ∷ rebuilds B (31 ∷ []) 2 31 (1 ∷ [])
+    -- A, who reported 40 at place 2, is then asked for place 1: 55 cannot stand there, and 40 can
+    ∷ reports A 4 3 0 4 widest 40 true
+    ∷ reports A 4 3 0 2 after_40 55 false
+    ∷ reports A 4 3 0 2 after_40 40 true
+    ∷ group three_seats 0 15 3 (at_target 8 Higher ∷ at_target 12 Lower ∷ at_target 10 Lower ∷ at_target 9 Done ∷ []) 9
+    -- at the last target seat 1 cannot have two places below, though three of the rules pass
+    ∷ counts 9 9 (known_of 2 1 0) (counted 2 0) false
+    ∷ counts 9 9 (known_of 2 1 0) (counted 1 0) true
+    ∷ group ((7 ∷ []) ∷ (7 ∷ []) ∷ []) 7 7 1 (at_target 7 Done ∷ []) 7
+    ∷ targets 0 (2 ^ 64 - 1) (2 ^ 63)
+    ∷ []
+
+-- every case of the table comes out as it stands there
+abbrev pub EveryCaseHolds : Type 0
+EveryCaseHolds = all_hold table ≡ true
