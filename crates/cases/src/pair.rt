@@ -5,10 +5,11 @@ use elements::entry::Entry;
 use elements::ordered::Ordered;
 use faults::fault::RunFault;
 use pairs::opening::open;
-use pairstages::stages::{Comparing, OfPair, Run, Stage, Stepped};
+use pairstages::stages::{OfPair, Run, Stage, Stepped};
 use referees::verdict::PairVerdict;
 use requests::answering::answer;
 use runs::slip::Slip;
+use runs::stages::Comparing;
 use std::io;
 
 /// Prints whether a call was accepted.

@@ -5,7 +5,7 @@ use Rattle.referees.specs.declared.verdict.GroupVerdict.TheVariants.{Lower, High
 use Rattle.runs.specs.Traces.{stepped, broken_off, verdicts}
 use Rattle.groupstages.specs.Calls.{Round, round_of, opened_round, moved_round, Steps, IsStageAfter, progress_of, step_answer}
 use Rattle.groupstages.specs.Histories.{GroupTrace, Now, going, over, History, opened, report, step, finish, break_off, step_leaves}
-use Rattle.groupstages.specs.declared.stages.Comparing.{Comparing as ComparingStage}
+use Rattle.runs.specs.declared.stages.Comparing.{Comparing as ComparingStage}
 use Rattle.groupstages.specs.declared.stages.Run.{Run}
 use Rattle.groupstages.specs.declared.stages.Stage.{Stage}
 use Rattle.groupstages.specs.declared.stages.Stage.TheVariants.{Comparing, Closing}

@@ -7,6 +7,7 @@ use Rattle.elements.specs.Orders.{OneElementEach}
 use Rattle.faults.specs.declared.fault.RunFault.{RunFault}
 use Rattle.faults.specs.declared.fault.Seat.TheVariants.{Numbered}
 use Rattle.runs.specs.Answers.{answered}
+use Rattle.runs.proofs.Deciding.{accepted_by_law, impossible_by_law, out_of_turn_by_law}
 use Rattle.runs.specs.HistoryLaw.{with_report, Honest, InTurn, Answered}
 use Rattle.runs.specs.Traces.{reported, stepped, finished, not_finished, broken_off, verdicts, EachIs}
 use Rattle.seatings.specs.Kept.{Kept, seat_number, seat_refusal}
@@ -99,41 +100,23 @@ module _ {T : Type 0} {g : Group T} (each : OneElementEach g.place g.lowest g.hi
     -- the checks answer as the law says, by what was given in this round and whether the report passes
     lawful_by_checks : (given : Option Counts) (passing : Bool) → kept.given ≡ given → keeps_rules now.a now.b kept.known counts ≡ passing →
         Answered (protocol g) number counts (answer_by number given passing) trace
-    lawful_by_checks (Some earlier) passing gave p = record {
-      in_turn = λ turn. absurd (both_ways _ turn.not_yet (given_is (after.seats number kept there) (Some earlier) gave).1);
-      out_of_turn = λ not_its. refl;
-    }
-    lawful_by_checks None true gave p = record {
-      in_turn = λ turn. record {
-        accepted_or_impossible = λ refused. absurd (refused refl);
-        refused_unexplained = λ refused xs x. refused refl;
-        unexplained_refused = λ none accepted. (let w = passing_explained gave p in none w.0 w.1);
-        honest_accepted = λ xs h is. refl;
-      };
-      out_of_turn = λ not_its. absurd (not_its (in_its_turn gave));
-    }
+    lawful_by_checks (Some earlier) passing gave p =
+        out_of_turn_by_law (protocol g) number counts trace
+        (λ turn. both_ways _ turn.not_yet (given_is (after.seats number kept there) (Some earlier) gave).1)
+    lawful_by_checks None true gave p =
+        let some = passing_explained gave p in accepted_by_law (protocol g) number counts trace (in_its_turn gave) some.0 some.1
     lawful_by_checks None false gave p =
-        let unexplained : (xs : List T) → ExplainsThis xs → ⊥ = λ xs x. both_ways _ p (explained_passes gave xs x) in
-        record {
-          in_turn = λ turn. record {
-            accepted_or_impossible = λ refused. refl;
-            refused_unexplained = λ refused. unexplained;
-            unexplained_refused = λ none accepted. cc;
-            honest_accepted = λ xs h is. absurd (unexplained xs (honest_explained xs h is));
-          };
-          out_of_turn = λ not_its. absurd (not_its (in_its_turn gave));
-        }
+        impossible_by_law (protocol g) number counts trace (in_its_turn gave) (λ xs x. both_ways _ p (explained_passes gave xs x)) honest_explained
 
   -- they do so for any number, whether there is a seat of it or none
   lawful_by_seat : (seat : Option Kept) → seat_number now.seats number ≡ seat →
       Answered (protocol g) number counts
       (answered (seat_refusal now.a now.b seat counts) (Some (Numbered number)) tt) trace
-  lawful_by_seat None is = record {
-    in_turn = λ turn.
-        let some = seat_there now.seats number turn.seated.0 (omega (arith, turn.seated.1, after.one_a_seat)) in
-        absurd (none-some some.0 (sym is ∙ some.1));
-    out_of_turn = λ not_its. refl;
-  }
+  lawful_by_seat None is =
+      out_of_turn_by_law (protocol g) number counts trace
+      (λ turn.
+      let some = seat_there now.seats number turn.seated.0 (omega (arith, turn.seated.1, after.one_a_seat)) in
+      none-some some.0 (sym is ∙ some.1))
   lawful_by_seat (Some kept) is = lawful_by_checks kept is kept.given (keeps_rules now.a now.b kept.known counts) refl refl
 
   -- so a report is answered as the law says

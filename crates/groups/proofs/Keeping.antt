@@ -10,7 +10,7 @@ use Rattle.runs.specs.Traces.{verdicts, EachReport, Ends}
 use Rattle.runs.specs.declared.slip.Slip.{Slip}
 use Rattle.groupstages.specs.Calls.{Opens, round_of, opened_round}
 use Rattle.groupstages.specs.Histories.{GroupTrace, Now, going, over, History, opened, report, step, finish, break_off}
-use Rattle.groupstages.specs.declared.stages.Comparing.{Comparing}
+use Rattle.runs.specs.declared.stages.Comparing.{Comparing}
 use Rattle.groupstages.specs.declared.stages.OfGroup.{OfGroup}
 use Rattle.groupstages.specs.declared.stages.Run.{Run}
 use Rattle.groupstages.specs.declared.stages.Stage.{Stage}

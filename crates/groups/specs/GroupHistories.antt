@@ -7,7 +7,7 @@ use Rattle.runs.specs.declared.slip.Slip.{Slip}
 use Rattle.weighings.specs.Ranges.{target}
 use Rattle.groupstages.specs.Histories.{History, Now, going, over, GroupTrace}
 use Rattle.groupstages.specs.declared.progress.Progress.{Progress}
-use Rattle.groupstages.specs.declared.stages.Comparing.{Comparing}
+use Rattle.runs.specs.declared.stages.Comparing.{Comparing}
 use Rattle.groupstages.specs.declared.stages.OfGroup.{OfGroup}
 use Rattle.groupstages.specs.declared.stages.Run.{Run}
 use Rattle.groupstages.specs.declared.stages.Stage.TheVariants.{Comparing as StillComparing, Closing as NowClosing}

@@ -3,9 +3,10 @@ ghost use Rattle.groups.specs.GroupHistories.{HistoriesKeepLaw};
 
 use elements::placed::Placed;
 use faults::fault::RunFault;
-use groupstages::stages::{Comparing, OfGroup, Run};
+use groupstages::stages::{OfGroup, Run};
 use groupstages::starting::start;
 use runs::slip::Slip;
+use runs::stages::Comparing;
 
 /// Opens a run for the element of a rank of lists of which the lengths are declared, one a seat, and of which every element's
 /// place is from `lo` to `hi`. Whatever calls follow, in whatever order and with whatever referee, their history keeps the law.

@@ -19,7 +19,7 @@ use Rattle.seatings.specs.Seats.{seats_of}
 use Rattle.weighings.specs.Ranges.{target, from_after, to_after}
 use Rattle.weighings.specs.declared.counts.Counts.{Counts}
 use Rattle.groupstages.specs.declared.progress.Progress.{Progress}
-use Rattle.groupstages.specs.declared.stages.Comparing.{Comparing}
+use Rattle.runs.specs.declared.stages.Comparing.{Comparing}
 use Rattle.groupstages.specs.declared.stages.OfGroup.{OfGroup}
 use Rattle.groupstages.specs.declared.stages.Run.{Run}
 use Rattle.groupstages.specs.declared.stages.Stage.{Stage}

@@ -6,8 +6,8 @@ use Rattle.runs.specs.Traces.{reported, stepped, finished, broken_off, Trace}
 use Rattle.runs.specs.declared.finished.Finished.{Finished}
 use Rattle.weighings.specs.declared.counts.Counts.{Counts}
 use Rattle.groupstages.specs.Calls.{Reports, Steps, Finishes, BreaksOff, progress_of, step_answer}
-use Rattle.groupstages.specs.declared.stages.Closing.{Closing as ClosingStage}
-use Rattle.groupstages.specs.declared.stages.Comparing.{Comparing as ComparingStage}
+use Rattle.runs.specs.declared.stages.Closing.{Closing as ClosingStage}
+use Rattle.runs.specs.declared.stages.Comparing.{Comparing as ComparingStage}
 use Rattle.groupstages.specs.declared.stages.Run.{Run}
 use Rattle.groupstages.specs.declared.stages.Stage.{Stage}
 use Rattle.groupstages.specs.declared.stages.Stage.TheVariants.{Comparing, Closing}

@@ -3,7 +3,7 @@ ghost use Rattle.runs.specs.Answers.{AsksOne};
 ghost use Rattle.groupstages.specs.Calls.{moved_round, progress_of, round_of, step_answer, step_asks, BreaksOff, Finishes, Handed, IsStageAfter, Reports, Steps};
 
 use crate::progress::Progress;
-use crate::stages::{Closing, Comparing, OfGroup, Run, Stage, Stepped};
+use crate::stages::{OfGroup, Run, Stage, Stepped};
 use elements::ordered::Ordered;
 use elements::placed::Placed;
 use faults::fault::{RunFault, Seat};
@@ -15,6 +15,7 @@ use referees::verdict::GroupVerdict;
 use runs::counting::one_more;
 use runs::finished::Finished;
 use runs::slip::Slip;
+use runs::stages::{Closing, Comparing};
 use std::marker::PhantomData;
 use weighings::counts::Counts;
 

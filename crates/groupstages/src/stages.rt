@@ -1,15 +1,8 @@
 use crate::progress::Progress;
 use faults::fault::RunFault;
 use referees::verdict::GroupVerdict;
+use runs::stages::{Closing, Comparing};
 use std::marker::PhantomData;
-
-/// The stage of a run that is still told lower or higher. It takes reports, and it steps.
-#[derive(Clone, Copy, Debug, PartialEq, Eq)]
-pub struct Comparing {}
-
-/// The stage of a run that was told done. It finishes.
-#[derive(Clone, Copy, Debug, PartialEq, Eq)]
-pub struct Closing {}
 
 /// The run of a group over elements of `T`, in one of two stages. It is moved from call to call, so that nothing but the last
 /// one is left to be asked.

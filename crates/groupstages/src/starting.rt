@@ -1,12 +1,13 @@
 ghost use Rattle.groupstages.specs.Calls.{IsOpened, IsWithin, Opens};
 
 use crate::progress::Progress;
-use crate::stages::{Comparing, OfGroup, Run};
+use crate::stages::{OfGroup, Run};
 use elements::placed::Placed;
 use faults::fault::RunFault;
 use faults::refusal::Refusal;
 use ranges::range::Range;
 use runs::slip::Slip;
+use runs::stages::Comparing;
 use seatings::seating::Seating;
 use std::marker::PhantomData;
 

@@ -11,8 +11,8 @@ use Rattle.bisections.specs.declared.side.Side.TheVariants.{A, B}
 use Rattle.runs.specs.Answers.{asked}
 use Rattle.pairstages.specs.Calls.{reports_of, progress_of}
 use Rattle.pairstages.specs.declared.progress.Progress.{Progress}
-use Rattle.pairstages.specs.declared.stages.Closing.{Closing}
-use Rattle.pairstages.specs.declared.stages.Comparing.{Comparing}
+use Rattle.runs.specs.declared.stages.Closing.{Closing}
+use Rattle.runs.specs.declared.stages.Comparing.{Comparing}
 use Rattle.pairstages.specs.declared.stages.Ending.TheVariants.{Refused as NotEnded}
 use Rattle.pairstages.specs.declared.stages.OfPair.{OfPair}
 use Rattle.pairstages.specs.declared.stages.Run.{Run}

@@ -10,7 +10,7 @@ use Rattle.runs.specs.declared.slip.Slip.{Slip}
 use Rattle.pairstages.specs.Calls.{Finishes}
 use Rattle.pairstages.specs.Histories.{PairTrace, over, finish}
 use Rattle.pairstages.specs.declared.progress.Progress.{Progress}
-use Rattle.pairstages.specs.declared.stages.Closing.{Closing}
+use Rattle.runs.specs.declared.stages.Closing.{Closing}
 use Rattle.pairstages.specs.declared.stages.Ending.TheVariants.{Finished as Ended}
 use Rattle.pairstages.specs.declared.stages.OfPair.{OfPair}
 use Rattle.pairstages.specs.declared.stages.Run.{Run}

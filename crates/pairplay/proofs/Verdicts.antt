@@ -11,7 +11,7 @@ use Rattle.windows.specs.declared.window.Window.{Window}
 use Rattle.pairstages.specs.Calls.{Moves, Steps, progress_of}
 use Rattle.pairstages.specs.Histories.{step}
 use Rattle.pairstages.specs.declared.progress.Progress.{Progress}
-use Rattle.pairstages.specs.declared.stages.Comparing.{Comparing}
+use Rattle.runs.specs.declared.stages.Comparing.{Comparing}
 use Rattle.pairstages.specs.declared.stages.Run.{Run}
 use Rattle.pairstages.specs.declared.stages.Stage.{Stage}
 use Rattle.pairstages.specs.declared.stages.Stage.TheVariants.{Comparing as StillComparing}

@@ -7,10 +7,11 @@ ghost use Rattle.pairplay.specs.Rounds.{ReportsOne, ReportsBoth, Compares, Close
 use bisections::side::Side;
 use elements::ordered::Ordered;
 use faults::fault::RunFault;
-use pairstages::stages::{Closing, Comparing, Ending, OfPair, Run, Stepped};
+use pairstages::stages::{Ending, OfPair, Run, Stepped};
 use referees::referee::Referee;
 use referees::verdict::PairVerdict;
 use runs::slip::Slip;
+use runs::stages::{Closing, Comparing};
 use seats::of_pair::report_of_pair;
 
 /// Lets a side's seat report of its list.

@@ -12,8 +12,8 @@ use Rattle.runs.specs.declared.slip.Slip.{Slip}
 use Rattle.pairstages.specs.Calls.{Reports, Steps, Finishes, IsOpened, stage_of, progress_of, step_answer, step_asks, Moves}
 use Rattle.pairstages.specs.Histories.{PairTrace, Now, going, over, History, opened, report, step, finish, break_off, with_progress, step_leaves, finish_event, finish_leaves}
 use Rattle.pairstages.specs.declared.progress.Progress.{Progress}
-use Rattle.pairstages.specs.declared.stages.Closing.{Closing as ClosingStage}
-use Rattle.pairstages.specs.declared.stages.Comparing.{Comparing as ComparingStage}
+use Rattle.runs.specs.declared.stages.Closing.{Closing as ClosingStage}
+use Rattle.runs.specs.declared.stages.Comparing.{Comparing as ComparingStage}
 use Rattle.pairstages.specs.declared.stages.Ending.{Ending}
 use Rattle.pairstages.specs.declared.stages.Ending.TheVariants.{Finished, Refused as NotFinished}
 use Rattle.pairstages.specs.declared.stages.OfPair.{OfPair}

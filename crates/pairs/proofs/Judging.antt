@@ -10,7 +10,8 @@ use Rattle.bisections.specs.Rows.{row, entry_at}
 use Rattle.bisections.specs.Windows.{OfSides}
 use Rattle.bisections.specs.declared.side.Side.{Side}
 use Rattle.bisections.proofs.Explaining.{some_list_explains, explained_consistent}
-use Rattle.runs.specs.HistoryLaw.{with_report, Honest, Answered}
+use Rattle.runs.proofs.Deciding.{accepted_by_law, impossible_by_law, out_of_turn_by_law}
+use Rattle.runs.specs.HistoryLaw.{with_report, Honest, Answered, InTurn}
 use Rattle.runs.specs.Traces.{reported, stepped, finished, not_finished, broken_off, verdicts, has_reported, EachIs}
 use Rattle.windows.specs.Windows.{offset_of}
 use Rattle.pairstages.specs.Calls.{Reports}
@@ -76,34 +77,21 @@ module _ {T : Type 0} {before : T → T → Bool} (o : IsOrder before) (sample :
       let x = own_list_explains before declared k side xs trace h in
       record { declared = x.declared; in_order = x.in_order; shows = (sym is, x.shows) }
 
+  -- a side that has given nothing in this round is in its turn
+  in_its_turn : (half_of side progress).given ≡ None → InTurn (pair_protocol before declared k) side trace
+  in_its_turn g = record { seated = tt; not_yet = (given_is (after.kept side) g).1 }
+
   -- the checks answer as the law says, by what was given in this round and whether the report passes
   lawful_by_checks : (given : Option (Entry T)) (passing : Bool) → (half_of side progress).given ≡ given → test before side progress e ≡ passing →
       Answered (pair_protocol before declared k) side e (answer_by side given passing) trace
-  lawful_by_checks (Some earlier) passing g p = record {
-    in_turn = λ turn. absurd (both_ways (has_reported same_side side trace) turn.not_yet (given_is (after.kept side) g).1);
-    out_of_turn = λ not_its. refl;
-  }
-  lawful_by_checks None true g p = record {
-    in_turn = λ turn. record {
-      accepted_or_impossible = λ refused. absurd (refused refl);
-      refused_unexplained = λ refused xs x. refused refl;
-      unexplained_refused = λ none accepted. (let w = passing_explained g p in none w.0 w.1);
-      honest_accepted = λ xs h is. refl;
-    };
-    out_of_turn = λ not_its. absurd (not_its (record { seated = tt; not_yet = (given_is (after.kept side) g).1 }));
-  }
+  lawful_by_checks (Some earlier) passing g p =
+      out_of_turn_by_law (pair_protocol before declared k) side e trace
+      (λ turn. both_ways (has_reported same_side side trace) turn.not_yet (given_is (after.kept side) g).1)
+  lawful_by_checks None true g p =
+      let some = passing_explained g p in accepted_by_law (pair_protocol before declared k) side e trace (in_its_turn g) some.0 some.1
   lawful_by_checks None false g p =
-      let unexplained : (xs : List T) → Explains before side k (declared side) with_this xs → ⊥
-      = λ xs x. both_ways (test before side progress e) p (explained_passes g xs x) in
-      record {
-        in_turn = λ turn. record {
-          accepted_or_impossible = λ refused. refl;
-          refused_unexplained = λ refused. unexplained;
-          unexplained_refused = λ none accepted. cc;
-          honest_accepted = λ xs h is. absurd (unexplained xs (honest_explained xs h is));
-        };
-        out_of_turn = λ not_its. absurd (not_its (record { seated = tt; not_yet = (given_is (after.kept side) g).1 }));
-      }
+      impossible_by_law (pair_protocol before declared k) side e trace (in_its_turn g)
+      (λ xs x. both_ways (test before side progress e) p (explained_passes g xs x)) honest_explained
 
   -- so a report is answered as the law says
   pub report_answered : (answer : Result (Unit {0}) RunFault) (left : Progress T) → Reports before side e progress answer left →

@@ -12,7 +12,7 @@ use Rattle.windows.specs.Windows.{offset_of}
 use Rattle.pairstages.specs.Calls.{Opens, IsOpened, Finishes as FinishAnswers, progress_of, stage_of}
 use Rattle.pairstages.specs.Histories.{PairTrace, Now, going, over, History, opened, report, step, finish, break_off, finish_event}
 use Rattle.pairstages.specs.declared.progress.Progress.{Progress}
-use Rattle.pairstages.specs.declared.stages.Closing.{Closing as ClosingStage}
+use Rattle.runs.specs.declared.stages.Closing.{Closing as ClosingStage}
 use Rattle.pairstages.specs.declared.stages.Ending.{Ending}
 use Rattle.pairstages.specs.declared.stages.Ending.TheVariants.{Finished, Refused as NotFinished}
 use Rattle.pairstages.specs.declared.stages.OfPair.{OfPair}

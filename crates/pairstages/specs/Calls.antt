@@ -19,8 +19,8 @@ use Rattle.runs.specs.declared.slip.Slip.{Slip}
 use Rattle.windows.specs.Windows.{IsWhole, Halves, offset_of}
 use Rattle.pairstages.specs.Halves.{unheard, with_report, half_after, half_of}
 use Rattle.pairstages.specs.declared.progress.Progress.{Progress}
-use Rattle.pairstages.specs.declared.stages.Closing.{Closing}
-use Rattle.pairstages.specs.declared.stages.Comparing.{Comparing}
+use Rattle.runs.specs.declared.stages.Closing.{Closing}
+use Rattle.runs.specs.declared.stages.Comparing.{Comparing}
 use Rattle.pairstages.specs.declared.stages.Ending.{Ending}
 use Rattle.pairstages.specs.declared.stages.Ending.TheVariants.{Finished as Ended, Refused as NotEnded}
 use Rattle.pairstages.specs.declared.stages.OfPair.{OfPair}

@@ -8,8 +8,8 @@ use Rattle.runs.specs.Traces.{Event, reported, stepped, finished, not_finished, 
 use Rattle.runs.specs.declared.slip.Slip.{Slip}
 use Rattle.pairstages.specs.Calls.{Reports, Steps, Finishes, BreaksOff, progress_of, step_answer}
 use Rattle.pairstages.specs.declared.progress.Progress.{Progress}
-use Rattle.pairstages.specs.declared.stages.Closing.{Closing as ClosingStage}
-use Rattle.pairstages.specs.declared.stages.Comparing.{Comparing as ComparingStage}
+use Rattle.runs.specs.declared.stages.Closing.{Closing as ClosingStage}
+use Rattle.runs.specs.declared.stages.Comparing.{Comparing as ComparingStage}
 use Rattle.pairstages.specs.declared.stages.Ending.{Ending}
 use Rattle.pairstages.specs.declared.stages.Ending.TheVariants.{Finished, Refused as NotFinished}
 use Rattle.pairstages.specs.declared.stages.OfPair.{OfPair}

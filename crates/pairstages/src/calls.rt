@@ -3,7 +3,7 @@ ghost use Rattle.runs.specs.Answers.{AsksOne};
 ghost use Rattle.pairstages.specs.Calls.{element_of, finish_answer, stage_of, step_answer, BreaksOff, Finishes, Moves, Reports, Steps};
 
 use crate::progress::Progress;
-use crate::stages::{Closing, Comparing, Ending, OfPair, Run, Stage, Stepped};
+use crate::stages::{Ending, OfPair, Run, Stage, Stepped};
 use bisections::side::Side;
 use elements::entry::Entry;
 use elements::ordered::Ordered;
@@ -13,6 +13,7 @@ use referees::verdict::PairVerdict;
 use runs::counting::one_more;
 use runs::finished::Finished;
 use runs::slip::Slip;
+use runs::stages::{Closing, Comparing};
 use windows::window::Window;
 
 impl<T: Ordered> Progress<T> {

@@ -3,14 +3,7 @@ use faults::fault::RunFault;
 use referees::verdict::PairVerdict;
 use runs::finished::Finished;
 use runs::slip::Slip;
-
-/// The stage of a run whose window has more than one place. It steps.
-#[derive(Clone, Copy, Debug, PartialEq, Eq)]
-pub struct Comparing {}
-
-/// The stage of a run whose window has one place. It finishes.
-#[derive(Clone, Copy, Debug, PartialEq, Eq)]
-pub struct Closing {}
+use runs::stages::{Closing, Comparing};
 
 /// The run of a pair in one of two stages: what both take is written once for them. It is moved from call to call, so that
 /// nothing but the last one is left to be asked.

@@ -6,3 +6,4 @@ pub mod answering;
 pub mod counting;
 pub mod finished;
 pub mod slip;
+pub mod stages;

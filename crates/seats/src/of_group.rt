@@ -6,8 +6,9 @@ use crate::list::{list_refusal, spot_told};
 use elements::placed::Placed;
 use faults::fault::{Seat, SeatFault};
 use faults::refusal::Refusal;
-use groupstages::stages::{Comparing, Run};
+use groupstages::stages::Run;
 use ranges::range::Range;
+use runs::stages::Comparing;
 use weighings::counts::Counts;
 
 /// Why a seat of a group cannot report of a list, if it cannot.

@@ -1,0 +1,7 @@
+/// The stage of a run that still makes verdicts. It steps.
+#[derive(Clone, Copy, Debug, PartialEq, Eq)]
+pub struct Comparing {}
+
+/// The stage of a run that has made them all. It finishes.
+#[derive(Clone, Copy, Debug, PartialEq, Eq)]
+pub struct Closing {}
