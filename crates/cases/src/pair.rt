@@ -52,22 +52,26 @@ fn element(micros: u32) -> Entry<Delay> {
 struct Answers {
     early_step: Option<RunFault>,
     late_step: Option<RunFault>,
+    first_a: Option<Result<(), RunFault>>,
+    first_b: Option<Result<(), RunFault>>,
     verdict: Option<PairVerdict>,
-    lie: Result<(), RunFault>,
-    truth: Result<(), RunFault>,
-    again: Result<(), RunFault>,
+    lie: Option<Result<(), RunFault>>,
+    truth: Option<Result<(), RunFault>>,
+    again: Option<Result<(), RunFault>>,
     made: u32,
 }
 
-/// No call is answered yet.
+/// No call is made yet.
 fn no_answers() -> Answers {
     Answers {
         early_step: None,
         late_step: None,
+        first_a: None,
+        first_b: None,
         verdict: None,
-        lie: Ok(()),
-        truth: Ok(()),
-        again: Ok(()),
+        lie: None,
+        truth: None,
+        again: None,
         made: 0,
     }
 }
@@ -75,9 +79,9 @@ fn no_answers() -> Answers {
 /// A, which reported 40 at place 2 and was told 0, is asked for place 1: 55 cannot stand there, 40 can, and a further report
 /// is out of its turn.
 fn lie_and_own_up(run: &mut Run<Delay, Comparing>, answers: &mut Answers) {
-    answers.lie = run.report(Side::A, element(55));
-    answers.truth = run.report(Side::A, element(40));
-    answers.again = run.report(Side::A, element(40));
+    answers.lie = Some(run.report(Side::A, element(55)));
+    answers.truth = Some(run.report(Side::A, element(40)));
+    answers.again = Some(run.report(Side::A, element(40)));
 }
 
 /// Steps too early, then has 40 and 31 reported and steps, over a referee of some stock; then A lies.
@@ -94,8 +98,8 @@ fn play(run: Run<Delay, Comparing>, slip: Slip<OfPair>, stock: u64) -> Answers {
             return answers;
         }
     };
-    answers.truth = run.report(Side::A, element(40));
-    answers.truth = run.report(Side::B, element(31));
+    answers.first_a = Some(run.report(Side::A, element(40)));
+    answers.first_b = Some(run.report(Side::B, element(31)));
     match run.step(&mut referee) {
         Stepped::Told(verdict, stage) => {
             answers.verdict = Some(verdict);
@@ -140,18 +144,32 @@ fn tell_fault(rt: &HostRuntime, what: &str, fault: Option<RunFault>) -> io::Resu
     }
 }
 
+/// Prints how a report was answered, where one was made.
+fn tell_report(
+    rt: &HostRuntime,
+    what: &str,
+    answer: Option<Result<(), RunFault>>,
+) -> io::Result<()> {
+    match answer {
+        Some(answer) => tell(rt, what, answer),
+        None => Ok(()),
+    }
+}
+
 /// The calls of a run, one by one.
 pub(crate) fn tell_run(rt: &HostRuntime) -> io::Result<()> {
     match played(64) {
         Err(fault) => println!(rt; "rank 4: {fault}"),
         Ok(answers) => {
             tell_fault(rt, "a step before any report", answers.early_step)?;
+            tell_report(rt, "A reports 40 at place 2", answers.first_a)?;
+            tell_report(rt, "B reports 31 at place 2", answers.first_b)?;
             if let Some(verdict) = answers.verdict {
-                println!(rt; "40 and 31 are reported: verdict {verdict}")?;
+                println!(rt; "a step: verdict {verdict}")?;
             }
-            tell(rt, "A reports 55 at place 1", answers.lie)?;
-            tell(rt, "A reports 40 there", answers.truth)?;
-            tell(rt, "A reports 40 again", answers.again)?;
+            tell_report(rt, "A reports 55 at place 1", answers.lie)?;
+            tell_report(rt, "A reports 40 there", answers.truth)?;
+            tell_report(rt, "A reports 40 again", answers.again)?;
             println!(rt; "broken off: count {}", answers.made)
         }
     }

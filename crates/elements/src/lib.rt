@@ -5,6 +5,7 @@ pub mod delay;
 pub mod delay_order;
 pub mod entry;
 pub mod entry_order;
+pub mod limits;
 pub mod link_level;
 pub mod link_level_order;
 pub mod ordered;

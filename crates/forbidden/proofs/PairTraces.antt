@@ -1,5 +1,5 @@
 -- What the law of a pair's histories forbids.
-use Rattle.std.proofs.Common.{◌≡◌, ℕ, zero, suc, ◌<◌, ◌≤◌, ◌≢◌, Bool, true, not, ◌&&◌, eqb, nat_lt, List, [], ◌∷◌, length, get_or, refl, le_of_suc-le-suc, arith}
+use Rattle.std.proofs.Common.{◌≡◌, ℕ, zero, suc, ◌<◌, ◌≤◌, ◌≢◌, Bool, true, not, ◌&&◌, eqb, nat_lt, List, [], ◌∷◌, length, get_or, refl, le_of_suc-le-suc, arith, Ok}
 use Rattle.std.proofs.lemmas.Bool.{both_ways, and_parts, eqb-false, not-true}
 use Rattle.elements.specs.ByPlaces.{numbers_trichotomy, numbers_transitive}
 use Rattle.elements.specs.Orders.{IsOrder, NeverFalls}
@@ -14,11 +14,12 @@ use Rattle.ranks.specs.Ranks.{Ranked}
 use Rattle.ranks.proofs.Sorting.{sorted_never_falls}
 use Rattle.referees.specs.declared.verdict.PairVerdict.{PairVerdict}
 use Rattle.referees.specs.declared.verdict.PairVerdict.TheVariants.{Before, NotBefore}
+use Rattle.runs.specs.Traces.{stepped}
 use Rattle.runs.specs.HistoryLaw.{ExplainAll}
 use Rattle.pairstages.specs.Calls.{of_sides}
 use Rattle.pairstages.specs.Histories.{PairTrace}
 use Rattle.pairs.specs.PairProtocol.{pair_protocol}
-use Rattle.forbidden.specs.OfPair.{PairLawForbids, first_round, second_round, last_reports}
+use Rattle.forbidden.specs.OfPair.{PairLawForbids, first_round, second_round, last_reports, gives}
 
 -- the order of numbers
 numbers : IsOrder nat_lt
@@ -103,6 +104,22 @@ none_explains xs e =
     let c = explained_consistent numbers A 4 3 _ (omega arith, (omega arith, tt)) xs e in
     both_ways true (c.rise.0.1.0 (omega arith)) refl
 
+-- both have 31 alone, which explains that they report it
+abbrev only_31 : (side : Side) → List ℕ
+only_31 side = 31 ∷ []
+
+alone_never_falls : NeverFalls nat_lt (31 ∷ [])
+alone_never_falls = sorted_never_falls numbers (31 ∷ []) (tt, tt)
+
+explain_equals : ExplainAll (pair_protocol nat_lt (of_sides 1 1) 2) only_31 (stepped (Ok Before) ∷ gives B 31 ∷ gives A 31 ∷ [])
+explain_equals = record {
+  one_a_seat = tt;
+  each = elim [
+    | A ↦ λ s. record { declared = refl; in_order = alone_never_falls; shows = (refl, tt) }
+    | B ↦ λ s. record { declared = refl; in_order = alone_never_falls; shows = (refl, tt) }
+  ];
+}
+
 pub pair_law_forbids : PairLawForbids
 pair_law_forbids = record {
   refuses_possible = λ law.
@@ -123,6 +140,10 @@ pair_law_forbids = record {
   guessed_verdict = λ law.
       let w = law.first_rebuilt list_of (explain_second NotBefore) (different (joint_pair list_of) refl) 40 ranked in
       let e : NotBefore ∷ Before ∷ [] ≡ NotBefore ∷ NotBefore ∷ w.0 = w.1 A tt in
+      absurd cc;
+  other_verdict_on_equals = λ law.
+      let w = law.first_made only_31 explain_equals in
+      let e : NotBefore ∷ [] ≡ Before ∷ w.0 = w.1 in
       absurd cc;
   early_finish = λ law. let l : 4 ≤ 2 = law.ends.count_fits.enough in omega arith;
 }

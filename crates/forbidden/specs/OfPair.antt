@@ -20,6 +20,10 @@ use Rattle.pairs.specs.PairProtocol.{pair_protocol}
 abbrev pub Forbids : PairTrace ℕ → Type 0
 Forbids trace = HistoryLaw (pair_protocol nat_lt (of_sides 3 3) 4) trace → ⊥
 
+-- nor of one for rank 2 of two lists of one element
+abbrev pub ForbidsOfTwo : PairTrace ℕ → Type 0
+ForbidsOfTwo trace = HistoryLaw (pair_protocol nat_lt (of_sides 1 1) 2) trace → ⊥
+
 -- a side's report of an element, accepted, or refused as impossible or out of turn
 abbrev pub gives : Side → ℕ → PairEvent ℕ
 gives side x = reported side (Element x) (Ok tt)
@@ -59,5 +63,7 @@ pub record PairLawForbids : Type 0 where
   pub same_verdict : Forbids (first_round Before)
   -- a true first verdict and a guess after it: 12 is before 70
   pub guessed_verdict : Forbids (second_round NotBefore)
+  -- the verdict 1 on equal elements, of which neither is before the other
+  pub other_verdict_on_equals : ForbidsOfTwo (stepped (Ok Before) ∷ gives B 31 ∷ gives A 31 ∷ [])
   -- a finish while verdicts are still owed
   pub early_finish : Forbids (finished 40 1 ∷ gives B 70 ∷ gives A 12 ∷ first_round NotBefore)

@@ -64,6 +64,10 @@ module _ {T : Type 0} {g : Group T} (o : IsOrder g.before) (agrees : PlacesAgree
           result_is = result_has_rank sample result handed;
           count_is = all;
           count_fits = subst (AtMostLogPlusOne (g.hi - g.lo + 1)) (sym all) few_verdicts;
+          all_made = λ lists all.
+              let e = explained_heard trace lists all in
+              let w = one_of_rank e o allowed in
+              (g.place w.0, (is_weighing o agrees e w.0 w.1 closed).0);
           all_rebuilt = λ lists all rebuildable x r.
               let e = explained_heard trace lists all in
               rebuilds_weighing lists e x r (reverse (verdicts trace)) (is_weighing o agrees e x r closed).0;

@@ -8,6 +8,8 @@ use Rattle.referees.specs.declared.verdict.GroupVerdict.{GroupVerdict}
 use Rattle.runs.specs.HistoryLaw.{ExplainAll, Rebuilt, Answered, Finishes, HistoryLaw}
 use Rattle.runs.specs.Traces.{verdicts, EachReport, Ends}
 use Rattle.runs.specs.declared.slip.Slip.{Slip}
+use Rattle.weighings.specs.Counting.{weighed}
+use Rattle.weighings.specs.Runs.{Run as Weighing}
 use Rattle.groupstages.specs.Calls.{Opens, round_of, opened_round}
 use Rattle.groupstages.specs.Histories.{GroupTrace, Now, going, over, History, opened, report, step, finish, break_off}
 use Rattle.runs.specs.declared.stages.Comparing.{Comparing}
@@ -42,21 +44,35 @@ module _ {T : Type 0} {g : Group T} (o : IsOrder g.before) (agrees : PlacesAgree
   some_lists (NowClosing run) trace closed =
       let some = some_lists_explain each allowed closed.stood in (some.0, heard_explained trace some.0 some.1)
 
-  -- whatever lists do, each seat rebuilds its verdicts, and a rest
+  -- whatever lists do, the weighing of them has its verdicts, and a rest, and ends at the place of their element
+  first_weighed : (stage : Stage T) (trace : GroupTrace T) → AtStage g stage trace →
+      (lists : List (List T)) → ExplainAll (protocol g) lists trace → (x : T) → Ranked g.before g.k (joint lists) x →
+      (rest : List GroupVerdict) × Weighing (weighed g.place g.k lists) g.lo g.hi (reverse (verdicts trace) ++ rest) (g.place x)
+  first_weighed (StillComparing run) trace after lists all x r =
+      let begins = begins_weighing o agrees (explained_heard trace lists all) x r after in (begins.0, begins.1)
+  first_weighed (NowClosing run) trace closed lists all x r =
+      let told = reverse (verdicts trace) in (
+        [],
+        subst (λ (vs : List GroupVerdict). Weighing (weighed g.place g.k lists) g.lo g.hi vs (g.place x)) (sym (append-nil told))
+            (is_weighing o agrees (explained_heard trace lists all) x r closed).0,
+      )
+
+  -- so the weighing of the lists makes the verdicts, and a rest
+  first_made : (stage : Stage T) (trace : GroupTrace T) → AtStage g stage trace →
+      (lists : List (List T)) → ExplainAll (protocol g) lists trace →
+      (rest : List GroupVerdict) × (protocol g).Makes lists (reverse (verdicts trace) ++ rest)
+  first_made stage trace at lists all =
+      let w = one_of_rank (explained_heard trace lists all) o allowed in
+      let made = first_weighed stage trace at lists all w.0 w.1 in
+      (made.0, (g.place w.0, made.1))
+
+  -- and each seat rebuilds them
   first_rebuilt : (stage : Stage T) (trace : GroupTrace T) → AtStage g stage trace →
       (lists : List (List T)) → ExplainAll (protocol g) lists trace → (x : T) → Ranked g.before g.k (joint lists) x →
       (rest : List GroupVerdict) × Rebuilt (protocol g) lists x (reverse (verdicts trace) ++ rest)
-  first_rebuilt (StillComparing run) trace after lists all x r =
-      let e = explained_heard trace lists all in
-      let begins = begins_weighing o agrees e x r after in
-      (begins.0, rebuilds_weighing o agrees trace lists e x r (reverse (verdicts trace) ++ begins.0) begins.1)
-  first_rebuilt (NowClosing run) trace closed lists all x r =
-      let e = explained_heard trace lists all in
-      let told = reverse (verdicts trace) in (
-        [],
-        subst (Rebuilt (protocol g) lists x) (sym (append-nil told))
-            (rebuilds_weighing o agrees trace lists e x r told (is_weighing o agrees e x r closed).0),
-      )
+  first_rebuilt stage trace at lists all x r =
+      let made = first_weighed stage trace at lists all x r in
+      (made.0, rebuilds_weighing {g = g} o agrees trace lists (explained_heard trace lists all) x r (reverse (verdicts trace) ++ made.0) made.1)
 
   -- the trace of a run keeps the law, once its reports are answered and it ends as the law says
   law_of_run : (stage : Stage T) (trace : GroupTrace T) → AtStage g stage trace → EachAnswered trace → EndsWell trace →
@@ -65,6 +81,7 @@ module _ {T : Type 0} {g : Group T} (o : IsOrder g.before) (agrees : PlacesAgree
     some_lists = some_lists stage trace at;
     own_list = λ number seated xs h. own_list_explains g number xs trace h;
     one_result = λ lists all. one_of_rank (explained_heard trace lists all) o allowed;
+    first_made = first_made stage trace at;
     first_rebuilt = λ lists all rebuildable. first_rebuilt stage trace at lists all;
     reports_answered = answered;
     ends = ends;

@@ -5,7 +5,7 @@ use Rattle.faults.specs.declared.fault.Seat.TheVariants.{Numbered}
 use Rattle.ranks.specs.Ranks.{joint, Ranked}
 use Rattle.referees.specs.declared.verdict.GroupVerdict.{GroupVerdict}
 use Rattle.runs.specs.Protocols.{Protocol}
-use Rattle.weighings.specs.Counting.{below, above, Within, told_by}
+use Rattle.weighings.specs.Counting.{below, above, Within, weighed, told_by}
 use Rattle.weighings.specs.Laws.{AtMostLogPlusOne}
 use Rattle.weighings.specs.Ranges.{target, from_after, to_after}
 use Rattle.weighings.specs.Runs.{Run}
@@ -57,6 +57,7 @@ module _ {T : Type 0} (before : T → T → Bool) (place : T → ℕ) (declared 
     OneASeat = λ lists. length lists ≡ length declared;
     list_of = λ lists number. slice_index_or lists (number - 1) [];
     IsResult = λ lists x. Ranked before k (joint lists) x;
+    Makes = λ lists verdicts. (m : ℕ) × Run (weighed place k lists) lo hi verdicts m;
     Rebuilds = λ number xs x verdicts. (m : ℕ) × Run (told_by (place x)) lo hi verdicts m;
     Rebuildable = λ lists. Unit {0};
     Counts = λ count. AtMostLogPlusOne (hi - lo + 1) count;

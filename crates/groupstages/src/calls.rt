@@ -39,12 +39,13 @@ impl Progress {
             .seating
             .sums()
             .ok_or(RunFault::Own(Refusal::ReportMissing, None))?;
-        referee.weigh(Sums {
+        let sums = Sums {
             below,
             above,
             k: self.rank,
             n: self.seating.total(),
-        })
+        };
+        referee.weigh(sums)
     }
 
     /// The progress after a verdict.
@@ -88,7 +89,8 @@ impl Progress {
     }
 }
 
-/// The element at a place. No run ends anywhere else: the law of its histories says so, and then nothing stands in.
+/// The element at a place. No run ends at a number that is no place: the law of its histories says so, and the sample is never
+/// handed out.
 fn element_at<T: Placed>(place: u64) -> T
     ensures { Handed T.Placed.place T.Placed.LOWEST T.Placed.HIGHEST T.Ordered.sample place result }
 {
@@ -145,7 +147,7 @@ impl<T: Placed> Run<T, Closing> {
         ensures { Finishes T.Placed.place T.Placed.LOWEST T.Placed.HIGHEST T.Ordered.sample self.progress result }
     {
         Finished {
-            result: element_at(self.progress.range.target()),
+            result: element_at(self.range().target()),
             count: self.break_off(slip),
         }
     }

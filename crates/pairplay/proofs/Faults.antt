@@ -1,15 +1,19 @@
 -- A play that ends with a fault: of a refused list, or of an empty stock.
-use Rattle.std.proofs.Common.{◌≡◌, ℕ, Bool, List, None, Ok, Err, Result, inl, inr, subst, arith}
+use Rattle.std.proofs.Common.{◌≡◌, ℕ, ◌≤◌, Bool, List, length, reverse, take, None, Ok, Err, Result, inl, inr, sym, ap, ◌∙◌, subst, arith}
+use Rattle.std.proofs.lemmas.List.{length-reverse, take_at}
 use Rattle.std.proofs.lemmas.Bool.{cases_lt}
 use Rattle.elements.specs.Entries.{lesser_entry}
 use Rattle.elements.specs.declared.entry.Entry.{Entry}
 use Rattle.faults.specs.declared.fault.RunFault.{RunFault}
 use Rattle.referees.specs.Verdicts.{first_of}
 use Rattle.referees.specs.declared.verdict.PairVerdict.{PairVerdict}
+use Rattle.bisections.specs.Windows.{pair_verdicts}
 use Rattle.bisections.specs.declared.side.Side.{Side}
 use Rattle.bisections.specs.declared.side.Side.TheVariants.{A, B}
 use Rattle.runs.specs.Answers.{asked}
+use Rattle.runs.specs.Traces.{verdicts}
 use Rattle.pairstages.specs.Calls.{reports_of, progress_of}
+use Rattle.pairstages.specs.Histories.{going}
 use Rattle.pairstages.specs.declared.progress.Progress.{Progress}
 use Rattle.runs.specs.declared.stages.Closing.{Closing}
 use Rattle.runs.specs.declared.stages.Comparing.{Comparing}
@@ -24,6 +28,7 @@ use Rattle.seats.specs.Lists.{IsListRefusal}
 use Rattle.pairplay.specs.Outcomes.{Plays}
 use Rattle.pairplay.specs.Rounds.{Compares, Closes, ReportsBoth}
 use Rattle.pairplay.proofs.Coming.{comes_refused, comes_unrefused, refused_of_both}
+use Rattle.pairplay.proofs.Honesty.{lists_explain}
 use Rattle.pairplay.proofs.Refusals.{not_both}
 use Rattle.pairplay.proofs.Reporting.{RefusesOne, accepted_reports, refused_reports}
 use Rattle.pairplay.proofs.Standing.{Stands}
@@ -54,6 +59,16 @@ module _ {T : Type 0} {before : T → T → Bool} {sample : T} {lists : Side →
         subst (λ (f : RunFault). Plays before lists k stock left log (Err f)) same
         (fault_of_list told (refused_reports stands.opened stands.not_yet progress stands.honestly told reports))
 
+    -- what is noted so far are the first of the protocol's verdicts
+    first_noted : ((side : Side) → IsListRefusal before (lists side) None) → made ≤ length log →
+        take made log ≡ take made (pair_verdicts before k lists)
+    first_noted unrefused room =
+        let explained = lists_explain stands.opened unrefused stands.honestly in
+        let first = (stands.opened.lawful stands.past (going stage) stands.honestly.history).0.first_made lists explained in
+        let told = reverse (verdicts stands.past) in
+        let many : length told ≡ made = length-reverse (verdicts stands.past) ∙ sym stands.made_is in
+        stands.noted room ∙ sym (ap (take made) first.1 ∙ take_at told first.0 made many)
+
     -- and an empty stock, after no more verdicts than the rank has halvings
     fault_of_stock : {Y : Type 0} (truth : Entry T × Entry T → Y) (u : Unit {0}) (progress : Progress T) →
         ReportsBoth before lists (progress_of stage) (Ok u) progress → (fault : RunFault) →
@@ -62,7 +77,12 @@ module _ {T : Type 0} {before : T → T → Bool} {sample : T} {lists : Side →
         let both = accepted_reports stands.opened stands.not_yet progress stands.honestly u reports in
         let empty = refused_of_both truth (progress_of stage) progress both.a both.b both.left_is left fault e in
         comes_unrefused stands.opened.order lists k stock log stands.opened.allowed both.unrefused left (Err fault)
-        (empty.0, omega (arith, empty.1, stands.paid, stands.all_rounds))
+        let spent : stock ≡ made = omega (arith, empty.1, stands.paid) in (
+          empty.0,
+          omega (arith, spent, stands.all_rounds),
+          empty.1,
+          λ room. rw spent (first_noted both.unrefused (omega (arith, spent, room))),
+        )
 
   module _ {stock left made : ℕ} {log : List PairVerdict} (fault : RunFault) {rest : ℕ} (same : rest ≡ left) where
     -- so a round that comes to a fault ends a play as is promised

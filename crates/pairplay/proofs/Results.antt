@@ -47,6 +47,8 @@ module _ {T : Type 0} {before : T → T → Bool} {sample : T} {lists : Side →
         let ranked = lawful.result_is lists explained in
         let as_many : made ≡ handed.count = stands.made_is ∙ sym lawful.count_is in
         record {
+          noted = λ room.
+              ap (λ (n : ℕ). take n log) (sym as_many) ∙ stands.noted (omega (arith, as_many, room)) ∙ sym (lawful.all_made lists explained);
           result = ranked;
           count = lawful.count_fits;
           verdicts = λ different room side.

@@ -11,7 +11,7 @@ use Rattle.referees.specs.declared.verdict.PairVerdict.{PairVerdict}
 use Rattle.bisections.specs.Laws.{AllDifferent, IsCeilLog2}
 use Rattle.bisections.specs.Rebuilds.{rebuilt}
 use Rattle.bisections.specs.Rows.{halvings}
-use Rattle.bisections.specs.Windows.{OfSides, joint_pair}
+use Rattle.bisections.specs.Windows.{OfSides, joint_pair, pair_verdicts}
 use Rattle.bisections.specs.declared.side.Side.{Side}
 use Rattle.bisections.specs.declared.side.Side.TheVariants.{A, B}
 use Rattle.pairstages.specs.Calls.{opening_refusal}
@@ -35,16 +35,20 @@ module _ {T : Type 0} (before : T → T → Bool) (lists : Side → List T) (ran
   -- The result is the element of the rank of both lists, found by the logarithm of the rank, rounded up, of verdicts; these
   -- stand at the log's start, and where all elements are different each seat rebuilds them from its list and the result.
   pub record Finds (log : List PairVerdict) (finished : Finished T) : Type 0 where
+    -- they are the protocol's
+    pub noted : finished.count ≤ length log → take finished.count log ≡ pair_verdicts before rank lists
     pub result : Ranked before rank (joint_pair lists) finished.result
     pub count : IsCeilLog2 rank finished.count
     pub verdicts : AllDifferent (joint_pair lists) → finished.count ≤ length log → (side : Side) →
         rebuilt before side rank (lists side) finished.result ≡ take finished.count log
 
-  -- with a stock that lasts for every verdict and for the result the element is found, at the cost of a question for each; with
-  -- a smaller one the referee refuses
+  -- With a stock that lasts for every verdict and for the result the element is found, at the cost of a question for each. With
+  -- a smaller one the referee refuses once nothing is left, and the log has the first of the protocol's verdicts.
   abbrev pub FindsBy : (stock left : ℕ) → List PairVerdict → Result (Finished T) RunFault → Type 0
   FindsBy stock left log (Ok finished) = (stock ≡ left + finished.count + 1) × Finds log finished
-  FindsBy stock left log (Err fault) = (fault ≡ out_of_stock) × (stock ≤ halvings rank)
+  FindsBy stock left log (Err fault) =
+      (fault ≡ out_of_stock) × (stock ≤ halvings rank) × (left ≡ 0)
+      × (stock ≤ length log → take stock log ≡ take stock (pair_verdicts before rank lists))
 
   -- what there is to refuse decides in this order: the opening, A's list, B's list, the stock
   abbrev pub Comes : (opening of_a of_b : Option Refusal) → (stock left : ℕ) → List PairVerdict → Result (Finished T) RunFault → Type 0

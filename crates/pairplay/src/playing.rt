@@ -28,6 +28,7 @@ pub fn play<T: Ordered, R: Referee<T>>(
 ) -> Result<Finished<T>, RunFault>
     ensures plays { Plays T.Ordered.before (lists_of a.now b.now) rank (R.Referee.stock referee.old) (R.Referee.stock referee.new) log.new result }
     ensures notes { NotesVerdicts (R.Referee.stock referee.old) (R.Referee.stock referee.new) log.old log.new result }
+    ensures untouched { R.Referee.stock referee.new ≡ R.Referee.stock referee.old → referee.new ≡ referee.old }
 {
     let (mut stage, slip) = open(declared(a), declared(b), rank)?;
     let mut made = 0;

@@ -59,12 +59,17 @@ module _ {T : Type 0} {before : T → T → Bool} (o : IsOrder before) {declared
         of_given None g = subst (Each P) (given_is (after.kept side) g).0 all
         of_given (Some e) g = let with_last = subst (Each P) (given_is (after.kept side) g).0 all in with_last.1
 
+    -- the bisection over lists that explain the reports makes the verdicts of a history, and a rest
+    pub first_made : (lists : Side → List T) → ExplainAll (pair_protocol before declared k) lists trace →
+        (rest : List PairVerdict) × (pair_verdicts before k lists ≡ reverse (verdicts trace) ++ rest)
+    first_made lists e =
+        let shown = λ (side : Side). all_older (λ r. entry_at (row side k (lists side)) r.place ≡ r.entry) side (e.each side tt).shows in
+        let rest = later before k lists (λ side. offset_of side progress.window) j in
+        (rest, (exchange_reached before k lists after.exchange shown).verdicts_are ∙ reverse_aux-eq (verdicts trace) rest)
+
     -- so each side rebuilds the verdicts of a history, and a rest
     pub rebuilds_first : (lists : Side → List T) → ExplainAll (pair_protocol before declared k) lists trace → AllDifferent (joint_pair lists) →
         (x : T) → Ranked before k (joint_pair lists) x →
         (rest : List PairVerdict) × Rebuilt (pair_protocol before declared k) lists x (reverse (verdicts trace) ++ rest)
     rebuilds_first lists e apart x r =
-        let shown = λ (side : Side). all_older (λ r. entry_at (row side k (lists side)) r.place ≡ r.entry) side (e.each side tt).shows in
-        let reached = exchange_reached before k lists after.exchange shown in
-        let rest = later before k lists (λ side. offset_of side progress.window) j in
-        (rest, λ side seated. rebuilds_bisection lists e apart x r side ∙ reached.verdicts_are ∙ reverse_aux-eq (verdicts trace) rest)
+        let made = first_made lists e in (made.0, λ side seated. rebuilds_bisection lists e apart x r side ∙ made.1)

@@ -1,5 +1,5 @@
 -- An accepted finish gives what the law says: the element of the rank asked for, and the number of verdicts.
-use Rattle.std.proofs.Common.{◌≡◌, ℕ, ◌+◌, Bool, List, sym, ◌∙◌, subst, arith}
+use Rattle.std.proofs.Common.{◌≡◌, ℕ, ◌+◌, Bool, List, reverse, sym, ◌∙◌, subst, arith}
 use Rattle.elements.specs.Entries.{lesser_entry}
 use Rattle.elements.specs.Orders.{IsOrder}
 use Rattle.elements.specs.declared.entry.Entry.{Entry}
@@ -8,7 +8,7 @@ use Rattle.bisections.specs.Exchanges.{with_round, Accepted, finished}
 use Rattle.bisections.specs.Laws.{IsCeilLog2, ExplainBoth, FinishedIsBisection}
 use Rattle.bisections.specs.Reports.{Report, Explains}
 use Rattle.bisections.specs.Rows.{halvings}
-use Rattle.bisections.specs.Windows.{OfSides, joint_pair}
+use Rattle.bisections.specs.Windows.{OfSides, joint_pair, pair_verdicts}
 use Rattle.bisections.specs.declared.side.Side.{Side}
 use Rattle.bisections.specs.declared.side.Side.TheVariants.{A, B}
 use Rattle.bisections.proofs.Finishing.{finished_is_bisection}
@@ -54,6 +54,11 @@ module _ {T : Type 0} {before : T → T → Bool} (o : IsOrder before) (sample :
       let w = finished_so.result_is lists (explain_finished lists e) in
       subst (λ (entry : Entry T). Ranked before k (joint_pair lists) (element_of sample entry)) (sym w.1 ∙ both.true_answer) w.2
 
+  -- the verdicts of the history are all that the bisection over such lists makes
+  all_verdicts : (lists : Side → List T) → ExplainAll (pair_protocol before declared k) lists trace →
+      pair_verdicts before k lists ≡ reverse (verdicts trace)
+  all_verdicts lists e = sym (finished_so.verdicts_are lists (explain_finished lists e))
+
   -- so the finish is lawful
   pub finish_lawful : (count : ℕ) → BreaksOff progress count → Finishes (pair_protocol before declared k) (element_of sample lesser) count trace
   finish_lawful count b =
@@ -62,6 +67,6 @@ module _ {T : Type 0} {before : T → T → Bool} (o : IsOrder before) (sample :
         result_is = result_has_rank;
         count_is = b ∙ after.made_is;
         count_fits = subst (IsCeilLog2 k) (sym all) (halvings_are_log k);
-        all_rebuilt = λ lists e apart x r side seated.
-            rebuilds_bisection o trace lists e apart x r side ∙ sym (finished_so.verdicts_are lists (explain_finished lists e));
+        all_made = all_verdicts;
+        all_rebuilt = λ lists e apart x r side seated. rebuilds_bisection o trace lists e apart x r side ∙ all_verdicts lists e;
       }

@@ -23,7 +23,7 @@ use Rattle.pairs.specs.PairHistories.{AsksNow, HistoriesKeepLaw}
 use Rattle.pairs.specs.PairProtocol.{pair_protocol}
 use Rattle.pairs.proofs.Answering.{asked_of_both}
 use Rattle.pairs.proofs.Asking.{size_is, asked_by_window}
-use Rattle.pairs.proofs.Explaining.{some_lists_explain, one_of_rank, rebuilds_first}
+use Rattle.pairs.proofs.Explaining.{some_lists_explain, one_of_rank, first_made, rebuilds_first}
 use Rattle.pairs.proofs.Finishing.{finish_lawful}
 use Rattle.pairs.proofs.Histories.{StandsAt, stands_at}
 use Rattle.pairs.proofs.Judging.{own_list_explains, report_answered}
@@ -46,6 +46,7 @@ module _ {T : Type 0} {before : T → T → Bool} (o : IsOrder before) (sample :
     some_lists = some_lists_explain o trace after sample;
     own_list = λ side seated xs h. own_list_explains before declared k side xs trace h;
     one_result = one_of_rank o trace allowed;
+    first_made = first_made o trace after;
     first_rebuilt = rebuilds_first o trace after;
     reports_answered = answered;
     ends = ends;

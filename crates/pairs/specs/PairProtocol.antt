@@ -9,7 +9,7 @@ use Rattle.bisections.specs.Rebuilds.{rebuilt}
 use Rattle.bisections.specs.Reports.{Report, Explains}
 use Rattle.bisections.specs.Rows.{halvings, row, entry_at}
 use Rattle.bisections.specs.Sides.{seat_of}
-use Rattle.bisections.specs.Windows.{OfSides, offset_after, place_asked, joint_pair}
+use Rattle.bisections.specs.Windows.{OfSides, offset_after, place_asked, joint_pair, pair_verdicts}
 use Rattle.bisections.specs.declared.side.Side.{Side}
 use Rattle.bisections.specs.declared.side.Side.TheVariants.{A, B}
 use Rattle.runs.specs.Protocols.{Protocol}
@@ -46,6 +46,7 @@ module _ {T : Type 0} (before : T → T → Bool) (declared : OfSides) (k : ℕ)
     OneASeat = λ lists. Unit {0};
     list_of = λ lists side. lists side;
     IsResult = λ lists x. Ranked before k (joint_pair lists) x;
+    Makes = λ lists verdicts. pair_verdicts before k lists ≡ verdicts;
     Rebuilds = λ side xs x verdicts. rebuilt before side k xs x ≡ verdicts;
     Rebuildable = λ lists. AllDifferent (joint_pair lists);
     Counts = λ count. IsCeilLog2 k count;

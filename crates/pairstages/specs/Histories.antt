@@ -32,7 +32,7 @@ pub data Now (T : Type 0) : Type 0 where
   over : Now T
 
 module _ {T : Type 0} where
-  -- the run in the same stage, so far come
+  -- the run in the same stage, come this far
   abbrev pub with_progress : Progress T → Stage T → Stage T
   with_progress progress (Comparing run) = Comparing (record { progress = progress; stage = run.stage })
   with_progress progress (Closing run) = Closing (record { progress = progress; stage = run.stage })

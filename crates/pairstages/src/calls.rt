@@ -47,7 +47,7 @@ impl<T: Ordered> Progress<T> {
     }
 }
 
-/// The element of an entry. No run ends with a mark: the law of its histories says so, and then nothing stands in.
+/// The element of an entry. No run ends with a mark: the law of its histories says so, and the sample is never handed out.
 fn element_of<T: Ordered>(entry: Entry<T>) -> T
     ensures { result ≡ element_of T.Ordered.sample entry }
 {

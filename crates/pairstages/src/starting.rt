@@ -4,6 +4,7 @@ ghost use Rattle.pairstages.specs.Calls.{of_sides, opening_refusal, Opens};
 use crate::half::Half;
 use crate::progress::Progress;
 use crate::stages::{OfPair, Stage};
+use elements::limits::LONGEST_LIST;
 use elements::ordered::Ordered;
 use faults::fault::RunFault;
 use faults::refusal::Refusal;
@@ -11,14 +12,11 @@ use runs::answering::unless_refused;
 use runs::slip::Slip;
 use windows::window::Window;
 
-/// The most elements that a seat may declare.
-const LONGEST: u32 = 65_536;
-
 /// Why an opening is refused, if it is.
 fn opening_refusal(a: u32, b: u32, rank: u32) -> Option<Refusal>
     ensures { result ≡ opening_refusal (of_sides a b) rank }
 {
-    if a > LONGEST || b > LONGEST {
+    if a > LONGEST_LIST || b > LONGEST_LIST {
         return Some(Refusal::ListTooLong);
     }
     if rank == 0 || rank > a + b {

@@ -3,20 +3,18 @@ ghost use Rattle.records.specs.Records.{IsUnheard, Reports, IsAfter};
 ghost use Rattle.weighings.specs.Seats.{known_after};
 
 use crate::record::Record;
+use elements::limits::LONGEST_LIST;
 use ranges::range::Range;
 use referees::verdict::GroupVerdict;
 use weighings::counts::Counts;
 use weighings::known::Known;
-
-/// The most elements that a seat may declare.
-const LONGEST: u32 = 65_536;
 
 impl Record {
     /// The record of a seat that has declared a length, before any round, or none where that is too long.
     pub fn unheard(declared: u32) -> Option<Record>
         ensures { IsUnheard declared result }
     {
-        if declared > LONGEST {
+        if declared > LONGEST_LIST {
             return None;
         }
         let known = Known {

@@ -43,16 +43,18 @@ module _ {S E V T R : Type 0} (p : Protocol S E V T R) where
     pub in_turn : InTurn seat past → Judged seat report answer past
     pub out_of_turn : (InTurn seat past → ⊥) → answer ≡ Err (Own NotItsTurn (Some (p.name seat)))
 
-  -- the verdicts, in order, are those that each seat rebuilds from its list and x, up to a rest
+  -- the verdicts, in order, are those that each seat rebuilds from its list and x
   abbrev pub Rebuilt : p.Lists → T → List V → Type 0
   Rebuilt lists x all = (seat : S) → p.Seated seat → p.Rebuilds seat (p.list_of lists seat) x all
 
   -- an accepted finish after a trace: its result is the element of the rank asked for, whatever lists explain the reports;
-  -- its count is that of the accepted steps; and the verdicts are all that each seat rebuilds
+  -- its count is that of the accepted steps; and the verdicts are all that the protocol makes over such lists, and all that
+  -- each seat rebuilds
   pub record Finishes (result : T) (count : ℕ) (past : Trace S E V T) : Type 0 where
     pub result_is : (lists : p.Lists) → ExplainAll lists past → p.IsResult lists result
     pub count_is : count ≡ length (verdicts past)
     pub count_fits : p.Counts count
+    pub all_made : (lists : p.Lists) → ExplainAll lists past → p.Makes lists (reverse (verdicts past))
     pub all_rebuilt : (lists : p.Lists) → ExplainAll lists past → p.Rebuildable lists → (x : T) → p.IsResult lists x →
         Rebuilt lists x (reverse (verdicts past))
 
@@ -62,6 +64,8 @@ module _ {S E V T R : Type 0} (p : Protocol S E V T R) where
     pub some_lists : (lists : p.Lists) × ExplainAll lists trace
     pub own_list : (seat : S) → p.Seated seat → (xs : List T) → Honest seat xs trace → p.Explains seat (reports_of seat trace) xs
     pub one_result : (lists : p.Lists) → ExplainAll lists trace → (x : T) × p.IsResult lists x × ((y : T) → p.IsResult lists y → y ≡ x)
+    -- the verdicts are the first of those that the protocol makes over whatever lists explain the reports
+    pub first_made : (lists : p.Lists) → ExplainAll lists trace → (rest : List V) × p.Makes lists (reverse (verdicts trace) ++ rest)
     -- the verdicts are the first of those that each seat rebuilds from its list and the element of the rank asked for
     pub first_rebuilt : (lists : p.Lists) → ExplainAll lists trace → p.Rebuildable lists → (x : T) → p.IsResult lists x →
         (rest : List V) × Rebuilt lists x (reverse (verdicts trace) ++ rest)

@@ -20,6 +20,8 @@ pub record Protocol (S E V T R : Type 0) : Type 1 where
   pub OneASeat : Lists → Type 0
   pub list_of : Lists → S → List T
   pub IsResult : Lists → T → Type 0
+  -- the verdicts, in order, that the protocol makes over lists
+  pub Makes : Lists → List V → Type 0
   -- the verdicts that a seat rebuilds from its list and the element of the rank asked for, in order, and the lists for which
   -- it is promised
   pub Rebuilds : S → List T → T → List V → Type 0

@@ -2,6 +2,6 @@
 #[derive(Clone, Copy, Debug, PartialEq, Eq)]
 pub struct Comparing {}
 
-/// The stage of a run that has made them all. It finishes.
+/// The stage of a run that has made all its verdicts. It finishes.
 #[derive(Clone, Copy, Debug, PartialEq, Eq)]
 pub struct Closing {}

@@ -14,9 +14,8 @@ abbrev pub seats_of : Seating → List Kept
 seats_of seating = map kept_of (take seating.count (sixteen_seats seating.records))
 
 -- no seat
-abbrev pub IsEmpty : Option Seating → Type 0
-IsEmpty None = ⊥
-IsEmpty (Some seating) = (seating.count ≡ 0) × (seating.total ≡ 0)
+abbrev pub IsEmpty : Seating → Type 0
+IsEmpty seating = (seating.count ≡ 0) × (seating.total ≡ 0)
 
 -- one seat more, unless its length is over 65,536
 abbrev pub IsSeated : Seating → (declared : ℕ) → Option Seating → Type 0

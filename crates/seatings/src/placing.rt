@@ -8,14 +8,16 @@ use records::sixteen::{put_of_sixteen, sixteen_of};
 
 impl Seating {
     /// No seat yet.
-    fn empty() -> Option<Seating>
+    fn empty() -> Seating
         ensures { IsEmpty result }
     {
-        Some(Seating {
+        // No list is too short to be declared.
+        let blank = Record::unheard(0).unwrap();
+        Seating {
             count: 0,
-            records: sixteen_of(Record::unheard(0)?),
+            records: sixteen_of(blank),
             total: 0,
-        })
+        }
     }
 
     /// One seat more, which has declared a length, or none where that is too long.
@@ -45,7 +47,7 @@ impl Seating {
         if lengths.len() < 2 || lengths.len() > 16 {
             return Err(Refusal::SeatsOutOfBounds);
         }
-        let mut seating = Seating::empty().ok_or(Refusal::ListTooLong)?;
+        let mut seating = Seating::empty();
         for declared in lengths {
             seating = seating.with_seat(*declared).ok_or(Refusal::ListTooLong)?;
         }

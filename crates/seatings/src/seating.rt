@@ -6,7 +6,7 @@ use records::two::Sixteen;
 
 /// The seats of a group: how many there are, their records, and the sum of the lengths that they declared. Of sixteen records
 /// the first are theirs, and the others never hold counts.
-#[derive(Clone, Copy)]
+#[derive(Clone, Copy, Debug, PartialEq, Eq)]
 pub struct Seating {
     pub(crate) count: u32,
     pub(crate) records: Sixteen,

@@ -1,11 +1,9 @@
 ghost use Rattle.std.specs.Prelude.{◌≡◌};
 ghost use Rattle.seats.specs.Lists.{spot_told, too_long, IsFall, IsListRefusal};
 
+use elements::limits::LONGEST_LIST;
 use elements::ordered::Ordered;
 use faults::refusal::Refusal;
-
-/// The most elements that a list may have.
-const LONGEST: usize = 65_536;
 
 /// An element's number in its list as a refusal tells it: itself, or the largest that fits.
 pub(crate) fn spot_told(number: usize) -> u32
@@ -30,7 +28,7 @@ fn first_fall<T: Ordered>(list: &[T]) -> Option<usize>
 fn is_too_long<T>(list: &[T]) -> bool
     ensures { result ≡ too_long list.now }
 {
-    list.len() > LONGEST
+    list.len() > LONGEST_LIST as usize
 }
 
 /// Why a seat cannot report of a list, in either protocol, if it cannot.

@@ -3,11 +3,12 @@ ghost use Rattle.sheets.specs.Readings.{for_seat, Reads, Answers, ReaderLaw};
 
 use crate::header::check_header;
 use crate::sheet_element::SheetElement;
+use elements::limits::LONGEST_LIST;
 use faults::fault::{Seat, SheetFault};
 use faults::refusal::Refusal;
 
 /// A sheet has at most so many elements.
-pub const MOST_ELEMENTS: usize = 65_536;
+pub const MOST_ELEMENTS: usize = LONGEST_LIST as usize;
 
 /// Reads the list of a sheet into the slice, and answers its length.
 fn read_list<T: SheetElement>(bytes: &[u8], list: &mut [T]) -> Result<usize, Refusal>

@@ -1,5 +1,5 @@
 -- The worked cases of both protocols as one table, which one computation tries.
-use Rattle.std.specs.Prelude.{◌≡◌, ℕ, zero, suc, ◌+◌, ◌-◌, ◌^◌, Bool, true, false, cond, not, ◌&&◌, List, [], ◌∷◌, map, ◌==◌, nat_lt}
+use Rattle.std.specs.Prelude.{◌≡◌, ℕ, ◌-◌, ◌^◌, Bool, true, false, not, ◌&&◌, List, [], ◌∷◌, map, Some, None, Option, ◌==◌, nat_lt}
 use Rattle.bisections.specs.Kept.{bounds_after, passes, widest}
 use Rattle.bisections.specs.Rebuilds.{rebuilt}
 use Rattle.bisections.specs.Windows.{pair_verdicts, pair_result}
@@ -8,11 +8,15 @@ use Rattle.bisections.specs.declared.side.Side.{Side}
 use Rattle.bisections.specs.declared.side.Side.TheVariants.{A, B}
 use Rattle.elements.specs.declared.entry.Entry.{Entry}
 use Rattle.elements.specs.declared.entry.Entry.TheVariants.{Below, Element, Above}
+use Rattle.faults.specs.Numbers.{number_of}
+use Rattle.faults.specs.declared.refusal.Refusal.{Refusal}
+use Rattle.faults.specs.declared.refusal.Refusal.TheVariants.{Impossible}
 use Rattle.referees.specs.Verdicts.{verdict_number}
 use Rattle.referees.specs.declared.verdict.GroupVerdict.{GroupVerdict}
 use Rattle.referees.specs.declared.verdict.GroupVerdict.TheVariants.{Lower, Higher, Done}
 use Rattle.referees.specs.declared.verdict.PairVerdict.{PairVerdict}
 use Rattle.referees.specs.declared.verdict.PairVerdict.TheVariants.{NotBefore}
+use Rattle.runs.specs.Answers.{check}
 use Rattle.weighings.specs.Counting.{weighed, told_by}
 use Rattle.weighings.specs.Ranges.{target, from_after, to_after}
 use Rattle.weighings.specs.Seats.{keeps_rules}
@@ -29,12 +33,13 @@ pub data Case : Type 0 where
   pair : (a b : List ℕ) → (k : ℕ) → (verdicts : List ℕ) → (result : ℕ) → Case
   -- the verdicts that a side rebuilds from its list and the result
   rebuilds : Side → (xs : List ℕ) → (k x : ℕ) → (verdicts : List ℕ) → Case
-  -- at a window with this offset and size in a row for rank k, a list of declared length d, and these bounds: whether the entry x passes
-  reports : Side → (k d offset size : ℕ) → Bounds ℕ → (x : ℕ) → Bool → Case
+  -- at a window with this offset and size in a row for rank k, of a list of declared length d and with these bounds, the report
+  -- of x: the number with which it is refused, or none
+  reports : Side → (k d offset size : ℕ) → Bounds ℕ → (x : ℕ) → (refused : List ℕ) → Case
   -- lists of places within lo to hi, a rank, the rounds, and the result
   group : (lists : List (List ℕ)) → (lo hi k : ℕ) → List AtTarget → (result : ℕ) → Case
-  -- whether counts keep the rules at the target of a to b, by what is known of their seat
-  counts : (a b : ℕ) → Known → Counts → Bool → Case
+  -- at the target of a to b, with what is known of a seat, the report of these counts: the number, or none
+  counts : (a b : ℕ) → Known → Counts → (refused : List ℕ) → Case
   -- the first target from lo to hi
   targets : (lo hi m : ℕ) → Case
 
@@ -43,10 +48,6 @@ same_numbers [] [] = true
 same_numbers [] (y ∷ ys) = false
 same_numbers (x ∷ xs) [] = false
 same_numbers (x ∷ xs) (y ∷ ys) = let rest = same_numbers xs ys in (x == y) && rest
-
-abbrev same_bit : Bool → Bool → Bool
-same_bit true b = b
-same_bit false b = not b
 
 abbrev same_verdict : GroupVerdict → GroupVerdict → Bool
 same_verdict Lower Lower = true
@@ -58,6 +59,14 @@ same_verdict Higher Done = false
 same_verdict Done Lower = false
 same_verdict Done Higher = false
 same_verdict Done Done = true
+
+-- the number with which a report is refused that does not pass
+abbrev number_told : Option Refusal → List ℕ
+number_told None = []
+number_told (Some refusal) = number_of refusal ∷ []
+
+abbrev refusal_of : (passing : Bool) → List ℕ
+refusal_of passing = number_told (check (not passing) Impossible)
 
 abbrev is_element : ℕ → Entry ℕ → Bool
 is_element x Below = false
@@ -83,11 +92,11 @@ abbrev pub holds : Case → Bool
 holds (pair a b k verdicts result) =
     same_numbers (numbers (pair_verdicts nat_lt k (by_side a b))) verdicts && is_element result (pair_result nat_lt k (by_side a b))
 holds (rebuilds side xs k x verdicts) = same_numbers (numbers (rebuilt nat_lt side k xs x)) verdicts
-holds (reports side k d offset size bounds x ok) = same_bit (passes nat_lt side k d offset size bounds (Element x)) ok
+holds (reports side k d offset size bounds x refused) = same_numbers (refusal_of (passes nat_lt side k d offset size bounds (Element x))) refused
 -- as the lists weigh, and as whoever knows the result alone tells
 holds (group lists lo hi k rounds result) =
     rounds_are (weighed (λ x. x) k lists) lo hi rounds result && rounds_are (told_by result) lo hi rounds result
-holds (counts a b known given ok) = same_bit (keeps_rules a b known given) ok
+holds (counts a b known given refused) = same_numbers (refusal_of (keeps_rules a b known given)) refused
 holds (targets lo hi m) = target lo hi == m
 
 abbrev all_hold : List Case → Bool
@@ -128,13 +137,13 @@ table =
     ∷ rebuilds A (31 ∷ []) 2 31 (0 ∷ [])
     ∷ rebuilds B (31 ∷ []) 2 31 (1 ∷ [])
     -- A, who reported 40 at place 2, is then asked for place 1: 55 cannot stand there, and 40 can
-    ∷ reports A 4 3 0 4 widest 40 true
-    ∷ reports A 4 3 0 2 after_40 55 false
-    ∷ reports A 4 3 0 2 after_40 40 true
+    ∷ reports A 4 3 0 4 widest 40 []
+    ∷ reports A 4 3 0 2 after_40 55 (14 ∷ [])
+    ∷ reports A 4 3 0 2 after_40 40 []
     ∷ group three_seats 0 15 3 (at_target 8 Higher ∷ at_target 12 Lower ∷ at_target 10 Lower ∷ at_target 9 Done ∷ []) 9
     -- at the last target seat 1 cannot have two places below, though three of the rules pass
-    ∷ counts 9 9 (known_of 2 1 0) (counted 2 0) false
-    ∷ counts 9 9 (known_of 2 1 0) (counted 1 0) true
+    ∷ counts 9 9 (known_of 2 1 0) (counted 2 0) (14 ∷ [])
+    ∷ counts 9 9 (known_of 2 1 0) (counted 1 0) []
     ∷ group ((7 ∷ []) ∷ (7 ∷ []) ∷ []) 7 7 1 (at_target 7 Done ∷ []) 7
     ∷ targets 0 (2 ^ 64 - 1) (2 ^ 63)
     ∷ []

@@ -33,6 +33,7 @@ loop-stage-init g c =
     record {
       stands = stands_at_start opened (g.R.Referee.stock c.args.referee.now) c.args.log.now;
       keeps = record { same_length = refl; rest = refl };
+      untouched = λ none. refl;
     }
 
 pub overflow_add-made : goal.overflow_add-made
@@ -51,6 +52,7 @@ loop-stage-preserved g c =
       stands = stands_after_verdict stands c.in-Told.verdict c.in-Told.next (g.R.Referee.stock c.compare.new.referee) c.in-Told.ensures.asks.0
           c.note.ensures c.in-Told.ensures.round;
       keeps = rest_kept c.loop-stage.invariant.keeps c.in-Told.verdict c.note.ensures;
+      untouched = λ none. absurd (omega (arith, none));
     }
 
 pub returns-in-Refused-clause-plays : goal.returns-in-Refused-clause-plays

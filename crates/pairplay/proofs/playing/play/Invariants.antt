@@ -1,14 +1,17 @@
+use Rattle.std.proofs.Common.{◌≡◌}
 use Rattle.pairstages.specs.Calls.{progress_of}
 use Rattle.pairplay.specs.Outcomes.{lists_of, KeepsRest}
 use Rattle.pairplay.proofs.Standing.{Stands}
 use Rattle.pairplay.proofs.playing.play.Given as goal
 
--- between rounds the play stands as honest seats leave it, and the log past the verdicts made is as it was
+-- between rounds the play stands as honest seats leave it, the log past the verdicts made is as it was, and so is the referee
+-- before the first verdict
 abbrev pub invariant-loop-stage : goal.invariant-loop-stage
 invariant-loop-stage g l = record {
   stands : Stands g.T.Ordered.before g.T.Ordered.sample (lists_of l.a l.b) l.rank l.initial.stage l.stage (g.R.Referee.stock l.initial.referee)
       (g.R.Referee.stock l.referee) l.made l.log;
   keeps : KeepsRest l.made l.initial.log l.log;
+  untouched : l.made ≡ 0 → l.referee ≡ l.initial.referee;
 }
 
 -- and its window gets smaller

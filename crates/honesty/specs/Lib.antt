@@ -1,0 +1,2 @@
+pub mod OfPair
+pub mod OfGroup
