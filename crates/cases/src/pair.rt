@@ -8,6 +8,7 @@ use pairs::opening::open;
 use pairstages::stages::{OfPair, Run, Stage, Stepped};
 use referees::verdict::PairVerdict;
 use requests::answering::answer;
+use requests::printing::Told;
 use runs::slip::Slip;
 use runs::stages::Comparing;
 use std::io;
@@ -236,11 +237,10 @@ fn tell_request(rt: &HostRuntime, request: Request) -> io::Result<()> {
     let mut b = [Delay { micros: 0 }; 3];
     let mut log = [PairVerdict::NotBefore; 8];
     match answer(bytes, &mut a, &mut b, &mut log) {
-        Ok(finished) => {
-            let result = finished.result;
-            let count = finished.count;
-            println!(rt; "{name}: result {result}, count {count}")
-        }
+        Ok(finished) => println!(rt; "{name}:\n{}", Told {
+            noted: &log,
+            finished,
+        }),
         Err(fault) => println!(rt; "{name}: {fault}"),
     }
 }

@@ -6,6 +6,7 @@ use elements::delay::Delay;
 use elements::ordered::Ordered;
 use referees::verdict::PairVerdict;
 use requests::answering::answer;
+use requests::printing::Told;
 use std::io::Read;
 
 /// So many bytes of the input are looked at.
@@ -25,19 +26,11 @@ fn main(rt: HostRuntime) -> anyhow::Result<()> {
     let mut b = vec![in heap; Delay::some(); MOST_ELEMENTS]?;
     let mut log = [PairVerdict::NotBefore; MOST_VERDICTS];
     match answer(&bytes, &mut a, &mut b, &mut log) {
+        Ok(finished) => println!(rt; "{}", Told {
+            noted: &log,
+            finished,
+        })?,
         Err(fault) => println!(rt; "{fault}")?,
-        Ok(finished) => {
-            print!(rt; "verdicts ")?;
-            if finished.count == 0 {
-                print!(rt; "-")?;
-            }
-            for verdict in log.iter().take(finished.count as usize) {
-                print!(rt; "{verdict}")?;
-            }
-            let result = finished.result;
-            let count = finished.count;
-            println!(rt; "\nresult {result}\ncount {count}")?;
-        }
     }
     Ok(())
 }

@@ -3,4 +3,5 @@
 
 pub mod answering;
 pub mod parting;
+pub mod printing;
 pub mod request;
