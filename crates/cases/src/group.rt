@@ -27,9 +27,21 @@ pub(crate) fn tell_openings(rt: &HostRuntime) -> io::Result<()> {
     tell(rt, "16 seats", opened(&[1; 16], 0, 15, 8))?;
     tell(rt, "17 seats", opened(&[1; 17], 0, 15, 8))?;
     tell(rt, "1 seat, too long", opened(&[65_537], 0, 15, 1))?;
-    tell(rt, "a seat of 65537, a range from 15 to 0", opened(&[1, 65_537], 15, 0, 1))?;
-    tell(rt, "a range from 15 to 0, rank 0", opened(&[1, 1], 15, 0, 0))?;
-    tell(rt, "a range to 2^32 of delays", opened(&[1, 1], 0, 0x1_0000_0000, 1))?;
+    tell(
+        rt,
+        "a seat of 65537, a range from 15 to 0",
+        opened(&[1, 65_537], 15, 0, 1),
+    )?;
+    tell(
+        rt,
+        "a range from 15 to 0, rank 0",
+        opened(&[1, 1], 15, 0, 0),
+    )?;
+    tell(
+        rt,
+        "a range to 2^32 of delays",
+        opened(&[1, 1], 0, 0x1_0000_0000, 1),
+    )?;
     tell(rt, "2 seats of 1, rank 3", opened(&[1, 1], 0, 15, 3))
 }
 

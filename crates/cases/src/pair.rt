@@ -237,10 +237,13 @@ fn tell_request(rt: &HostRuntime, request: Request) -> io::Result<()> {
     let mut b = [Delay { micros: 0 }; 3];
     let mut log = [PairVerdict::NotBefore; 8];
     match answer(bytes, &mut a, &mut b, &mut log) {
-        Ok(finished) => println!(rt; "{name}:\n{}", Told {
-            noted: &log,
-            finished,
-        }),
+        Ok(finished) => println!(rt;
+            "{name}:\n{}",
+            Told {
+                noted: &log,
+                finished,
+            }
+        ),
         Err(fault) => println!(rt; "{name}: {fault}"),
     }
 }

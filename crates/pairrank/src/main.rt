@@ -26,10 +26,13 @@ fn main(rt: HostRuntime) -> anyhow::Result<()> {
     let mut b = vec![in heap; Delay::some(); MOST_ELEMENTS]?;
     let mut log = [PairVerdict::NotBefore; MOST_VERDICTS];
     match answer(&bytes, &mut a, &mut b, &mut log) {
-        Ok(finished) => println!(rt; "{}", Told {
-            noted: &log,
-            finished,
-        })?,
+        Ok(finished) => println!(rt;
+            "{}",
+            Told {
+                noted: &log,
+                finished,
+            }
+        )?,
         Err(fault) => println!(rt; "{fault}")?,
     }
     Ok(())

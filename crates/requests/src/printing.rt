@@ -17,10 +17,7 @@ pub struct Told<'a> {
 }
 
 /// Writes verdicts as digits in a row.
-fn write_digits<W: fmt::Write>(
-    verdicts: &[PairVerdict],
-    f: &mut fmt::Formatter<W>,
-) -> fmt::Result
+fn write_digits<W: fmt::Write>(verdicts: &[PairVerdict], f: &mut fmt::Formatter<W>) -> fmt::Result
     ensures writes { IsPlainFormatter f.old → IsOk result → HasWritten W.Write.write_str_gives f.old (digits verdicts.now) f.new }
 {
     let [verdict, later @ ..] = verdicts else {

@@ -1,6 +1,6 @@
 -- What the opening promises of every history, from the laws of the type's order and of its places.
 use Rattle.groups.proofs.Keeping.{histories_keep_law}
-use Rattle.groups.proofs.opening.open.Goals as goal
+use Rattle.groups.proofs.opening.start_lawful.Goals as goal
 
 pub returns-clause-lawful : goal.returns-clause-lawful
 returns-clause-lawful g c =
