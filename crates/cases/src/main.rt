@@ -1,17 +1,20 @@
-//! Runs cases of both protocols through the calls themselves, and prints what came of each.
+//! Runs cases of both protocols through the calls themselves, and of sheets through their reader, and prints what came of each.
 #![tactic(auto)]
 
-mod group;
-mod lengths;
-mod pair;
+mod group_cases;
+mod pair_cases;
+mod sheet_cases;
+mod sheet_lengths;
 
 fn main(rt: HostRuntime) -> anyhow::Result<()> {
-    pair::tell_openings(&rt)?;
-    pair::tell_run(&rt)?;
-    pair::tell_empty_stock(&rt)?;
-    pair::tell_requests(&rt)?;
-    group::tell_openings(&rt)?;
-    group::tell_reports(&rt)?;
-    group::tell_runs(&rt)?;
-    lengths::tell_lengths(&rt)
+    pair_cases::print_openings(&rt)?;
+    pair_cases::print_run(&rt)?;
+    pair_cases::print_empty_stock(&rt)?;
+    pair_cases::print_requests(&rt)?;
+    group_cases::print_openings(&rt)?;
+    group_cases::print_reports(&rt)?;
+    group_cases::print_runs(&rt)?;
+    sheet_lengths::print_lengths(&rt)?;
+    sheet_cases::print_readings(&rt)?;
+    Ok(())
 }

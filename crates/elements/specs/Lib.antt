@@ -2,9 +2,14 @@ pub mod Orders
 pub mod Delays
 pub mod LinkLevels
 pub mod Entries
-pub mod Words
+pub mod Printing
 pub mod ByPlaces
 pub mod Alike
 pub mod EntryLaws
 pub mod LevelPlaces
 pub mod DelayPlaces
+pub mod Ranks
+pub mod RankLaws
+pub mod Percentiles
+pub mod Limits
+pub mod SpotChecks

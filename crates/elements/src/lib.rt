@@ -1,14 +1,16 @@
-//! The elements of lists: ordered and placed types, two of them, and entries, which are elements between two marks.
+//! The elements of lists: ordered and placed types, two of them, entries, which are elements between two marks, and the element
+//! of a rank.
 #![tactic(auto)]
 
 pub mod delay;
-pub mod delay_order;
 pub mod entry;
-pub mod entry_order;
+pub mod laws;
 pub mod limits;
 pub mod link_level;
-pub mod link_level_order;
+pub mod list;
 pub mod ordered;
-pub mod place_order;
+pub mod place_number;
 pub mod placed;
-pub mod printing;
+pub mod rank;
+#[cfg(test)]
+mod tests;

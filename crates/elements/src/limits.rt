@@ -1,2 +1,12 @@
-/// A list of a seat has at most so many elements.
+ghost use Rattle.std.specs.Prelude.{◌≡◌};
+ghost use Rattle.elements.specs.Limits.{saturated};
+
+/// A list has at most so many elements.
 pub const LONGEST_LIST: u32 = 65_536;
+
+/// A number in 32 bits: itself, or the largest that fits.
+pub fn saturated(n: u64) -> u32
+    ensures { result ≡ saturated n }
+{
+    u32::try_from(n).unwrap_or(u32::MAX)
+}

@@ -1,5 +1,9 @@
 ghost use Rattle.std.specs.Prelude.{◌-◌, ◌^◌, ◌<◌, pos, negsuc, ◌≤ℤ◌};
 
+use crate::ordered::{Ordered, sample_number};
+use crate::placed::Placed;
+use std::fmt;
+
 /// The level of a link, in hundredths of dBm, with the link's number.
 #[derive(Clone, Copy, Debug, PartialEq, Eq, PartialOrd, Ord)]
 pub struct LinkLevel {
@@ -8,4 +12,77 @@ pub struct LinkLevel {
     ghost low: { negsuc (2 ^ 31 - 1) ≤ℤ level },
     ghost high: { level ≤ℤ pos (2 ^ 31 - 1) },
     ghost fits: { link < 2 ^ 32 },
+}
+
+impl Ordered for LinkLevel {
+    ghost use Rattle.std.specs.Prelude.{◌-◌};
+    ghost use Rattle.std.proofs.Common.{rules};
+    ghost use Rattle.elements.specs.LinkLevels.{level_before, level_place, level_zero};
+    ghost use Rattle.elements.specs.ByPlaces.{trichotomy_by_places, transitive_by_places};
+    ghost use Rattle.elements.specs.LevelPlaces.{level_agrees, level_apart};
+
+    ghost before = { level_before };
+
+    ghost sample = { level_zero };
+
+    ghost law = { record {
+      order = record { trichotomy = trichotomy_by_places level_before level_place level_agrees level_apart; transitive = transitive_by_places level_before level_place level_agrees };
+      by_cmp = Prim.search rules;
+    } };
+
+    fn sample() -> LinkLevel {
+        LinkLevel {
+            level: 0,
+            link: sample_number(),
+        }
+    }
+}
+
+impl Placed for LinkLevel {
+    ghost use Rattle.std.specs.Prelude.{◌-◌, ◌^◌};
+    ghost use Rattle.std.proofs.Common.{rules};
+    ghost use Rattle.elements.specs.LinkLevels.{level_place};
+    ghost use Rattle.elements.specs.LevelPlaces.{level_agrees, levels_complete};
+
+    ghost place = { level_place };
+
+    const LOWEST: u64 = 0;
+
+    ghost LOWEST = { 0 };
+
+    const HIGHEST: u64 = u64::MAX;
+
+    ghost HIGHEST = { 2 ^ 64 - 1 };
+
+    ghost law = { record {
+      agrees = level_agrees;
+      fits = Prim.search rules;
+      within = Prim.search rules;
+      complete = levels_complete;
+    } };
+
+    fn place_number(self) -> u64 {
+        (self.level as i64 + 0x8000_0000) as u64 * 0x1_0000_0000 + self.link as u64
+    }
+
+    fn at_place(n: u64) -> Option<LinkLevel> {
+        let level = (n / 0x1_0000_0000) as i64 - 0x8000_0000;
+        let link = n % 0x1_0000_0000;
+        Some(LinkLevel {
+            level: level as i32,
+            link: link as u32,
+        })
+    }
+}
+
+impl fmt::Display for LinkLevel {
+    ghost use Rattle.std.specs.Prelude.{Some};
+    ghost use Rattle.elements.specs.Printing.{level_text};
+
+    ghost output = { λ x. Some (level_text x) };
+
+    fn fmt<W: fmt::Write>(&self, f: &mut fmt::Formatter<W>) -> fmt::Result {
+        let LinkLevel { level, link } = self;
+        write!(f, "{level} link {link}")
+    }
 }

@@ -1,6 +1,5 @@
 ghost use Rattle.std.specs.Prelude.{◌≡◌, Bool};
-ghost use Rattle.std.specs.Ordering.{is_lt};
-ghost use Rattle.elements.specs.Orders.{Trichotomy, Transitive};
+ghost use Rattle.elements.specs.Orders.{OrderLaw};
 
 /// A type whose elements stand in an order without ties: what is neither before nor after is equal.
 pub trait Ordered: Copy + Ord {
@@ -16,14 +15,10 @@ pub trait Ordered: Copy + Ord {
     }
 
     /// Some element, always the same: it stands in where a value is needed and none matters.
-    fn some() -> Self
+    fn sample() -> Self
         ensures { result ≡ sample };
 
-    ghost less_by_cmp: { (x y : Self) → before x y ≡ is_lt (Self.Ord.cmp x y) };
-
-    ghost trichotomy: { Trichotomy before };
-
-    ghost transitive: { Transitive before };
+    ghost law: { OrderLaw before Self.Ord.cmp };
 }
 
 /// The number in the sample elements of the types here.

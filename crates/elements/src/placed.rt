@@ -1,5 +1,5 @@
 ghost use Rattle.std.specs.Prelude.{◌≡◌, ℕ, ◌^◌, ◌<◌, ◌≤◌, nat_lt};
-ghost use Rattle.elements.specs.Orders.{PlacesAgree, OneElementEach, AtPlace};
+ghost use Rattle.elements.specs.Orders.{PlaceLaw, AtPlace};
 
 use crate::ordered::Ordered;
 
@@ -35,11 +35,5 @@ pub trait Placed: Ordered {
         self.place_number() < other.place_number()
     }
 
-    ghost agrees: { PlacesAgree Self.Ordered.before place };
-
-    ghost fits: { HIGHEST < 2 ^ 64 };
-
-    ghost within: { (x : Self) → (LOWEST ≤ place x) × (place x ≤ HIGHEST) };
-
-    ghost complete: { OneElementEach place LOWEST HIGHEST };
+    ghost law: { PlaceLaw Self.Ordered.before place LOWEST HIGHEST };
 }

@@ -1,4 +1,4 @@
-pub mod Numbers
-pub mod Notices
-pub mod Words
-pub mod Refusing
+pub mod RefusalNumbers
+pub mod FaultInfos
+pub mod Printing
+pub mod RefusalOrder

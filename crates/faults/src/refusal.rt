@@ -1,5 +1,5 @@
 ghost use Rattle.std.specs.Prelude.{◌≡◌};
-ghost use Rattle.faults.specs.Numbers.{number_of, spot_of};
+ghost use Rattle.faults.specs.RefusalNumbers.{number_of, spot_of};
 
 /// The condition under which a call refuses, one variant a condition.
 ///

@@ -2,11 +2,7 @@
 //! the verdicts, the result and the count, or why there is none.
 #![tactic(auto)]
 
-use elements::delay::Delay;
-use elements::ordered::Ordered;
-use referees::verdict::PairVerdict;
-use requests::answering::answer;
-use requests::printing::Told;
+use rankunit::{Delay, Ordered, PairVerdict, RequestOutcome, answer_request};
 use std::io::Read;
 
 /// So many bytes of the input are looked at.
@@ -22,13 +18,13 @@ fn main(rt: HostRuntime) -> anyhow::Result<()> {
     let heap = rt.alloc();
     let mut bytes = Vec::new(heap);
     rt.stdin().take(MOST_BYTES).read_to_end(&mut bytes)?;
-    let mut a = vec![in heap; Delay::some(); MOST_ELEMENTS]?;
-    let mut b = vec![in heap; Delay::some(); MOST_ELEMENTS]?;
+    let mut a = vec![in heap; Delay::sample(); MOST_ELEMENTS]?;
+    let mut b = vec![in heap; Delay::sample(); MOST_ELEMENTS]?;
     let mut log = [PairVerdict::NotBefore; MOST_VERDICTS];
-    match answer(&bytes, &mut a, &mut b, &mut log) {
+    match answer_request(&bytes, &mut a, &mut b, &mut log) {
         Ok(finished) => println!(rt;
             "{}",
-            Told {
+            RequestOutcome {
                 noted: &log,
                 finished,
             }

@@ -1,12 +1,7 @@
 //! Plays questions against a pile of every kind of referee until it is empty, and prints each with what came of it.
 #![tactic(auto)]
 
-use elements::entry::Entry;
-use elements::link_level::LinkLevel;
-use piles::playing::{PileNumbers, play_on_pile};
-use plays::line::Line;
-use questions::question::Question;
-use referees::sums::Sums;
+use rankunit::{Entry, Line, LinkLevel, PileNumbers, Question, Sums, play_on_pile};
 use std::io;
 
 fn level(level: i32, link: u32) -> Entry<LinkLevel> {
@@ -77,7 +72,7 @@ fn main(rt: HostRuntime) -> io::Result<()> {
         numbers.plain,
         words.len()
     )?;
-    let mut lines = questions().map(Line::to_ask);
+    let mut lines = questions().map(Line::new);
     let tally = play_on_pile(numbers, &words, &mut lines);
     for line in lines {
         println!(rt; "{line}")?;

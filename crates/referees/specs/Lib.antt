@@ -1,4 +1,14 @@
 pub mod Verdicts
-pub mod Shown
+pub mod Operands
 pub mod Questions
-pub mod Loans
+pub mod LentReferees
+pub mod PlainStock
+pub mod SecretShares
+pub mod Strips
+pub mod Quotas
+pub mod Spares
+pub mod Truths
+pub mod Printing
+pub mod Plays
+pub mod PlayPrinting
+pub mod Piles

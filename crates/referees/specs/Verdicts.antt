@@ -12,13 +12,13 @@ abbrev pub verdict_number : PairVerdict → ℕ
 verdict_number Before = 1
 verdict_number NotBefore = 0
 
-abbrev pub pair_verdict_word : PairVerdict → List ℕ
-pair_verdict_word v = decimal (verdict_number v)
+abbrev pub pair_verdict_text : PairVerdict → List ℕ
+pair_verdict_text v = decimal (verdict_number v)
 
-abbrev pub group_verdict_word : GroupVerdict → List ℕ
-group_verdict_word Lower = codes "lower"
-group_verdict_word Higher = codes "higher"
-group_verdict_word Done = codes "done"
+abbrev pub group_verdict_text : GroupVerdict → List ℕ
+group_verdict_text Lower = codes "lower"
+group_verdict_text Higher = codes "higher"
+group_verdict_text Done = codes "done"
 
 -- the verdict of a test whether A's entry is before B's
 abbrev pub verdict_if : Bool → PairVerdict
@@ -36,6 +36,6 @@ abbrev pub weight_of_sums : Sums → GroupVerdict
 weight_of_sums s = weight_of s.below s.above s.k s.n
 
 -- as sum below 3, sum above 5, k 4, n 9
-abbrev pub sums_word : Sums → List ℕ
-sums_word s =
+abbrev pub sums_text : Sums → List ℕ
+sums_text s =
     codes "sum below " ++ (decimal s.below ++ (codes ", sum above " ++ (decimal s.above ++ (codes ", k " ++ (decimal s.k ++ (codes ", n " ++ decimal s.n))))))

@@ -1,16 +1,21 @@
 ghost use Rattle.std.specs.Prelude.{◌≡◌, ℕ, IfOk};
-ghost use Rattle.referees.specs.Questions.{AsksFirst, AsksLesser, AsksWeight, told_stock};
+ghost use Rattle.referees.specs.Questions.{AsksFirst, AsksLesser, AsksWeight, out_of_stock, OneQuestion};
+ghost use Rattle.elements.specs.Limits.{saturated};
+ghost use Rattle.referees.specs.LentReferees.{lent_stock, lent_spends};
+ghost use Rattle.referees.specs.Verdicts.{first_of};
+ghost use Rattle.elements.specs.Entries.{lesser_entry};
 
-use crate::sort::Shown;
+use crate::operand::Operand;
 use crate::sums::Sums;
 use crate::verdict::{GroupVerdict, PairVerdict};
 use elements::entry::Entry;
 use elements::ordered::Ordered;
 use faults::fault::RunFault;
+use faults::refusal::Refusal;
 
 /// Whoever answers three questions, each at the cost of one from its stock, which counts the questions that it can still
 /// answer. With an empty stock each is refused with `StockEmpty` and the referee stays as it was. A question takes A's
-/// entry `a` and B's entry `b` each as its sort and an element; what goes with a mark does not matter.
+/// entry `a` and B's entry `b` each as its kind and an element; what goes with a mark does not matter.
 pub trait Referee<T: Ordered> {
     ghost stock: { Self → ℕ };
 
@@ -19,12 +24,12 @@ pub trait Referee<T: Ordered> {
     ghost spends: { Self → Self → Type 0 };
 
     /// Whether A's entry is before B's.
-    fn first(&mut self, a: Shown<T>, b: Shown<T>) -> Result<PairVerdict, RunFault>
+    fn first(&mut self, a: Operand<T>, b: Operand<T>) -> Result<PairVerdict, RunFault>
         ensures answers { AsksFirst T.Ordered.before stock self.old self.new a b result }
         ensures spends { IfOk result (λ answer. spends self.old self.new) };
 
     /// A's entry if it is before B's, else B's.
-    fn lesser(&mut self, a: Shown<T>, b: Shown<T>) -> Result<Entry<T>, RunFault>
+    fn lesser(&mut self, a: Operand<T>, b: Operand<T>) -> Result<Entry<T>, RunFault>
         ensures answers { AsksLesser T.Ordered.before stock self.old self.new a b result }
         ensures spends { IfOk result (λ answer. spends self.old self.new) };
 
@@ -35,5 +40,68 @@ pub trait Referee<T: Ordered> {
 
     /// The stock, or the greatest number that fits the answer where the stock is larger.
     fn left(&self) -> u32
-        ensures tells { result ≡ told_stock (stock self.now) };
+        ensures stock { result ≡ saturated (stock self.now) };
+}
+
+/// A lent referee is a referee: every question to it goes to the referee behind it, each by the method of its name.
+impl<'a, T: Ordered, R: Referee<T>> Referee<T> for &'a mut R {
+    ghost stock = { lent_stock R.Referee.stock };
+
+    ghost spends = { lent_spends R.Referee.spends };
+
+    // Two questions, with answers of two types. Rattle cannot yet give them their trait's clauses, which name the order of `T`.
+    fn first(&mut self, a: Operand<T>, b: Operand<T>) -> Result<PairVerdict, RunFault>
+        ensures answers { AsksFirst T.Ordered.before (lent_stock R.Referee.stock) self.old self.new a b result }
+        ensures spends { IfOk result (λ answer. lent_spends R.Referee.spends self.old self.new) }
+    {
+        (**self).first(a, b)
+    }
+
+    fn lesser(&mut self, a: Operand<T>, b: Operand<T>) -> Result<Entry<T>, RunFault>
+        ensures answers { AsksLesser T.Ordered.before (lent_stock R.Referee.stock) self.old self.new a b result }
+        ensures spends { IfOk result (λ answer. lent_spends R.Referee.spends self.old self.new) }
+    {
+        (**self).lesser(a, b)
+    }
+
+    fn weigh(&mut self, sums: Sums) -> Result<GroupVerdict, RunFault> {
+        (**self).weigh(sums)
+    }
+
+    fn left(&self) -> u32 {
+        (**self).left()
+    }
+}
+
+/// How every referee refuses a question.
+pub fn out_of_stock() -> RunFault
+    ensures { result ≡ out_of_stock }
+{
+    RunFault::Own(Refusal::StockEmpty, None)
+}
+
+// Each of the two is one call, by the name of its question.
+
+/// Asks a referee whether A's entry is before B's, marks as elements.
+pub fn ask_first<T: Ordered, R: Referee<T>>(
+    referee: &mut R,
+    a: Entry<T>,
+    b: Entry<T>,
+) -> Result<PairVerdict, RunFault>
+    ensures answers { OneQuestion R.Referee.stock referee.old referee.new (first_of T.Ordered.before a b) result }
+    ensures spends { IfOk result (λ answer. R.Referee.spends referee.old referee.new) }
+{
+    referee.first(Operand::from(a), Operand::from(b))
+}
+
+/// Asks a referee for the lesser of two entries, marks as elements.
+pub fn ask_lesser<T: Ordered, R: Referee<T>>(
+    referee: &mut R,
+    a: Entry<T>,
+    b: Entry<T>,
+) -> Result<Entry<T>, RunFault>
+    ensures answers { OneQuestion R.Referee.stock referee.old referee.new (lesser_entry T.Ordered.before a b) result }
+    ensures spends { IfOk result (λ answer. R.Referee.spends referee.old referee.new) }
+{
+    referee.lesser(Operand::from(a), Operand::from(b))
 }

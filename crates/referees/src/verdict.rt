@@ -1,9 +1,10 @@
-ghost use Rattle.std.specs.Prelude.{◌≡◌};
-ghost use Rattle.referees.specs.Verdicts.{verdict_if, verdict_number, first_of, weight_of_sums};
+ghost use Rattle.std.specs.Prelude.{◌≡◌, Some};
+ghost use Rattle.referees.specs.Verdicts.{verdict_if, verdict_number, first_of, weight_of_sums, pair_verdict_text, group_verdict_text};
 
 use crate::sums::Sums;
 use elements::entry::Entry;
 use elements::ordered::Ordered;
+use std::fmt;
 
 /// The answer to *first*: whether A's entry is before B's.
 #[derive(Clone, Copy, Debug, PartialEq, Eq)]
@@ -60,6 +61,26 @@ impl GroupVerdict {
             GroupVerdict::Higher
         } else {
             GroupVerdict::Done
+        }
+    }
+}
+
+impl fmt::Display for PairVerdict {
+    ghost output = { λ x. Some (pair_verdict_text x) };
+
+    fn fmt<W: fmt::Write>(&self, f: &mut fmt::Formatter<W>) -> fmt::Result {
+        self.number().fmt(f)
+    }
+}
+
+impl fmt::Display for GroupVerdict {
+    ghost output = { λ x. Some (group_verdict_text x) };
+
+    fn fmt<W: fmt::Write>(&self, f: &mut fmt::Formatter<W>) -> fmt::Result {
+        match self {
+            GroupVerdict::Lower => write!(f, "lower"),
+            GroupVerdict::Higher => write!(f, "higher"),
+            GroupVerdict::Done => write!(f, "done"),
         }
     }
 }

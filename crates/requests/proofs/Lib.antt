@@ -1,2 +1,2 @@
-pub mod Reading
-pub mod Playing
+pub mod ReadLists
+pub mod RunsOfLists

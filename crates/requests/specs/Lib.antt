@@ -1,3 +1,3 @@
-pub mod Requests
-pub mod Answers
-pub mod Words
+pub mod RequestLayout
+pub mod RequestAnswers
+pub mod Printing

@@ -1,1 +1,1 @@
-pub mod Deciding
+pub mod LawfulAnswers

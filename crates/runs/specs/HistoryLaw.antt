@@ -9,11 +9,11 @@ use Rattle.runs.specs.Traces.{Trace, verdicts, has_reported, accepted, EachIs, E
 module _ {S E V T R : Type 0} (p : Protocol S E V T R) where
   -- the accepted reports of a seat, the newest first
   abbrev pub reports_of : S → Trace S E V T → List R
-  reports_of seat trace = accepted p.same p.told seat trace
+  reports_of seat trace = accepted p.same p.report_at seat trace
 
   -- those and one more, which comes after this trace
   abbrev pub with_report : S → E → Trace S E V T → List R
-  with_report seat report past = p.told seat (verdicts past) report ∷ reports_of seat past
+  with_report seat report past = p.report_at seat (verdicts past) report ∷ reports_of seat past
 
   -- lists, one a seat, that explain the accepted reports
   pub record ExplainAll (lists : p.Lists) (trace : Trace S E V T) : Type 0 where
@@ -50,10 +50,10 @@ module _ {S E V T R : Type 0} (p : Protocol S E V T R) where
   -- an accepted finish after a trace: its result is the element of the rank asked for, whatever lists explain the reports;
   -- its count is that of the accepted steps; and the verdicts are all that the protocol makes over such lists, and all that
   -- each seat rebuilds
-  pub record Finishes (result : T) (count : ℕ) (past : Trace S E V T) : Type 0 where
+  pub record FinishLaw (result : T) (count : ℕ) (past : Trace S E V T) : Type 0 where
     pub result_is : (lists : p.Lists) → ExplainAll lists past → p.IsResult lists result
     pub count_is : count ≡ length (verdicts past)
-    pub count_fits : p.Counts count
+    pub count_fits : p.VerdictCount count
     pub all_made : (lists : p.Lists) → ExplainAll lists past → p.Makes lists (reverse (verdicts past))
     pub all_rebuilt : (lists : p.Lists) → ExplainAll lists past → p.Rebuildable lists → (x : T) → p.IsResult lists x →
         Rebuilt lists x (reverse (verdicts past))
@@ -70,4 +70,4 @@ module _ {S E V T R : Type 0} (p : Protocol S E V T R) where
     pub first_rebuilt : (lists : p.Lists) → ExplainAll lists trace → p.Rebuildable lists → (x : T) → p.IsResult lists x →
         (rest : List V) × Rebuilt lists x (reverse (verdicts trace) ++ rest)
     pub reports_answered : EachReport Answered trace
-    pub ends : Ends Finishes trace
+    pub ends : Ends FinishLaw trace

@@ -1,6 +1,6 @@
 -- What the history law needs to know of a protocol, in the protocol's own terms.
 use Rattle.std.specs.Prelude.{ℕ, Bool, List}
-use Rattle.faults.specs.declared.fault.Seat.{Seat as Whose}
+use Rattle.faults.specs.declared.seat.Seat.{Seat as Whose}
 
 -- a protocol of seats S that report E, with verdicts V, about elements T; R is a report with what was asked
 pub record Protocol (S E V T R : Type 0) : Type 1 where
@@ -9,7 +9,7 @@ pub record Protocol (S E V T R : Type 0) : Type 1 where
   pub Seated : S → Type 0
   pub name : S → Whose
   -- a seat's report with what is asked of it after these verdicts, the newest first
-  pub told : S → List V → E → R
+  pub report_at : S → List V → E → R
   -- a list explains a seat's reports
   pub Explains : S → List R → List T → Type 0
   -- what an honest seat's list is, and its honest report after these verdicts, the newest first
@@ -27,4 +27,4 @@ pub record Protocol (S E V T R : Type 0) : Type 1 where
   pub Rebuilds : S → List T → T → List V → Type 0
   pub Rebuildable : Lists → Type 0
   -- what is promised of the number of verdicts of a finished run
-  pub Counts : ℕ → Type 0
+  pub VerdictCount : ℕ → Type 0

@@ -37,17 +37,17 @@ module _ {S E V T : Type 0} where
     has_reported seat (not_finished fault ∷ past) = has_reported seat past
     has_reported seat (broken_off count ∷ past) = has_reported seat past
 
-    -- the accepted reports of a seat, the newest first, each told with what was asked when it came, which follows from the
+    -- the accepted reports of a seat, the newest first, each with what was asked when it came, which follows from the
     -- verdicts before it
-    abbrev pub accepted : {R : Type 0} → (told : S → List V → E → R) → S → Trace S E V T → List R
-    accepted told seat [] = []
-    accepted told seat (reported other report (Ok u) ∷ past) =
-        let earlier = accepted told seat past in cond (same seat other) (told seat (verdicts past) report ∷ earlier) earlier
-    accepted told seat (reported other report (Err fault) ∷ past) = accepted told seat past
-    accepted told seat (stepped answer ∷ past) = accepted told seat past
-    accepted told seat (finished result count ∷ past) = accepted told seat past
-    accepted told seat (not_finished fault ∷ past) = accepted told seat past
-    accepted told seat (broken_off count ∷ past) = accepted told seat past
+    abbrev pub accepted : {R : Type 0} → (report_at : S → List V → E → R) → S → Trace S E V T → List R
+    accepted report_at seat [] = []
+    accepted report_at seat (reported other report (Ok u) ∷ past) =
+        let earlier = accepted report_at seat past in cond (same seat other) (report_at seat (verdicts past) report ∷ earlier) earlier
+    accepted report_at seat (reported other report (Err fault) ∷ past) = accepted report_at seat past
+    accepted report_at seat (stepped answer ∷ past) = accepted report_at seat past
+    accepted report_at seat (finished result count ∷ past) = accepted report_at seat past
+    accepted report_at seat (not_finished fault ∷ past) = accepted report_at seat past
+    accepted report_at seat (broken_off count ∷ past) = accepted report_at seat past
 
     -- each accepted report of a seat is the one that goes with the verdicts before it
     abbrev pub EachIs : (report_after : List V → E) → S → Trace S E V T → Type 0

@@ -1,2 +1,15 @@
-pub mod Tallying
+pub mod Tallies
 pub mod RowEntries
+pub mod GivenReports
+pub mod PairHonest
+pub mod GroupHonest
+pub mod Refusals
+pub mod Honesty
+pub mod HonestReports
+pub mod RunOutcomes
+pub mod Openings
+pub mod HonestRunStands
+pub mod Verdicts
+pub mod Results
+pub mod Faults
+pub mod NotedVerdicts

@@ -1,26 +1,26 @@
--- The entry of a row at a place, by the sort that the place has.
+-- The entry of a row at a place, by the kind that the place has.
 use Rattle.std.proofs.Common.{◌≡◌, ℕ, ◌-◌, ◌≤◌, List, length, get_or, sym, ◌∙◌, inl, inr, arith}
 use Rattle.elements.specs.declared.entry.Entry.TheVariants.{Below, Element, Above}
-use Rattle.referees.specs.declared.sort.Sort.TheVariants.{Below as BelowSort, Element as ElementSort, Above as AboveSort}
-use Rattle.bisections.specs.Rows.{belows, row, row_length, entry_at, sort_at}
-use Rattle.bisections.specs.declared.side.Side.{Side}
-use Rattle.bisections.proofs.Rows.{row_below, row_element, row_above, sort_cases}
+use Rattle.referees.specs.declared.operand.EntryKind.TheVariants.{Below as BelowKind, Element as ElementKind, Above as AboveKind}
+use Rattle.pair.specs.Rows.{belows, row, row_length, entry_at, kind_at}
+use Rattle.pair.specs.declared.side.Side.{Side}
+use Rattle.pair.proofs.Rows.{row_below, row_element, row_above, kind_cases}
 
--- sorts that differ
-pub below_is_no_element : BelowSort ≡ ElementSort → ⊥
+-- kinds that differ
+pub below_is_no_element : BelowKind ≡ ElementKind → ⊥
 below_is_no_element e = let z : ◌≡◌ {A = ℕ} 0 1 = cc in omega arith
 
-pub below_is_no_above : BelowSort ≡ AboveSort → ⊥
+pub below_is_no_above : BelowKind ≡ AboveKind → ⊥
 below_is_no_above e = let z : ◌≡◌ {A = ℕ} 0 1 = cc in omega arith
 
-pub element_is_no_above : ElementSort ≡ AboveSort → ⊥
+pub element_is_no_above : ElementKind ≡ AboveKind → ⊥
 element_is_no_above e = let z : ◌≡◌ {A = ℕ} 0 1 = cc in omega arith
 
 module _ {E : Type 0} (side : Side) (k : ℕ) (xs : List E) (place : ℕ) (from_1 : 1 ≤ place) where
-  -- a place whose sort is below has a below
-  pub below_there : sort_at side k (length xs) place ≡ BelowSort → entry_at (row side k xs) place ≡ Below
+  -- a place whose kind is below has a below
+  pub below_there : kind_at side k (length xs) place ≡ BelowKind → entry_at (row side k xs) place ≡ Below
   below_there e =
-      elim (sort_cases (belows side k) k (length xs) place) [
+      elim (kind_cases (belows side k) k (length xs) place) [
         | inl s ↦ row_below (row_length k) (belows side k) k xs place from_1 s.0
         | inr t ↦ elim t [
           | inl s ↦ absurd (below_is_no_element (sym e ∙ s.2))
@@ -28,11 +28,11 @@ module _ {E : Type 0} (side : Side) (k : ℕ) (xs : List E) (place : ℕ) (from_
         ]
       ]
 
-  -- one whose sort is element has the element at its index past the belows
-  pub element_there : sort_at side k (length xs) place ≡ ElementSort → (d : E) →
+  -- one whose kind is element has the element at its index past the belows
+  pub element_there : kind_at side k (length xs) place ≡ ElementKind → (d : E) →
       entry_at (row side k xs) place ≡ Element (get_or xs (place - belows side k - 1) d)
   element_there e d =
-      elim (sort_cases (belows side k) k (length xs) place) [
+      elim (kind_cases (belows side k) k (length xs) place) [
         | inl s ↦ absurd (below_is_no_element (sym s.1 ∙ e))
         | inr t ↦ elim t [
           | inl s ↦ row_element (row_length k) (belows side k) k xs place (place - belows side k - 1) d (omega (arith, s.0)) (omega (arith, s.0, s.1)) (omega (arith, s.0, s.1))
@@ -40,10 +40,10 @@ module _ {E : Type 0} (side : Side) (k : ℕ) (xs : List E) (place : ℕ) (from_
         ]
       ]
 
-  -- and one whose sort is above has an above
-  pub above_there : sort_at side k (length xs) place ≡ AboveSort → entry_at (row side k xs) place ≡ Above
+  -- and one whose kind is above has an above
+  pub above_there : kind_at side k (length xs) place ≡ AboveKind → entry_at (row side k xs) place ≡ Above
   above_there e =
-      elim (sort_cases (belows side k) k (length xs) place) [
+      elim (kind_cases (belows side k) k (length xs) place) [
         | inl s ↦ absurd (below_is_no_above (sym s.1 ∙ e))
         | inr t ↦ elim t [
           | inl s ↦ absurd (element_is_no_above (sym s.2 ∙ e))

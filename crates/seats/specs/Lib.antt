@@ -1,2 +1,6 @@
-pub mod Lists
-pub mod Reports
+pub mod ListRefusals
+pub mod SeatReports
+pub mod PairSeatHonesty
+pub mod GroupSeatHonesty
+pub mod HonestRuns
+pub mod HonestRounds

@@ -1,8 +1,10 @@
--- The bytes of a list's elements: how many there are, where each element's stand, and that they tell the list.
-use Rattle.std.proofs.Common.{◌≡◌, ℕ, zero, suc, ◌+◌, ◌*◌, ◌<◌, ◌≤◌, List, [], ◌∷◌, ◌++◌, length, get_or, take, drop, sym, refl, ap, ◌∙◌, subst, le_of_suc-le-suc, not-suc-le-zero, suc-mul, zero-mul, arith, length-append, length-drop, take-append-drop, length-take-le}
+-- The bytes of a list's elements: how many there are, where each element's stand, and that they are one list's.
+use Rattle.std.proofs.Common.{◌≡◌, ℕ, zero, suc, ◌+◌, ◌*◌, ◌/◌, ◌<◌, ◌≤◌, List, [], ◌∷◌, ◌++◌, length, get_or, take, drop, Some, None, Option, sym, refl, ap, ◌∙◌, subst, le_of_suc-le-suc, not-suc-le-zero, suc-mul, zero-mul, arith, length-append, length-drop, take-append-drop, length-take-le}
 use lib.Seq.{drop-append-add}
 use Rattle.std.proofs.lemmas.List.{take_at, drop_at, get_or-drop}
-use Rattle.sheets.specs.Layouts.{Format, FixedWidth, Distinct, Complete, Bytes, packed}
+use Rattle.sheets.specs.Layouts.{Format, FixedWidth, Distinct, Complete, Bytes, Decoded, elements_in, packed}
+use Rattle.std.proofs.Math.Nat.{mul-div_left}
+use Rattle.std.specs.Option.{unwrap_or}
 
 -- a part of some bytes are bytes
 pub bytes_take : (n : ℕ) (bytes : List ℕ) → Bytes bytes → Bytes (take n bytes)
@@ -20,6 +22,10 @@ module _ {E : Type 0} (f : Format E) (fixed : FixedWidth f) where
   length-packed (x ∷ xs) =
       omega (arith, length-append (f.coded x) (packed f xs), fixed x, length-packed xs, suc-mul (length xs) f.width)
 
+  pub elements_in-packed : (1 ≤ f.width) → (xs : List E) (bytes : List ℕ) → packed f xs ≡ bytes → elements_in f bytes ≡ length xs
+  elements_in-packed one xs bytes e =
+      ap (elements_in f) (sym e) ∙ ap (λ (n : ℕ). n / f.width) (length-packed xs) ∙ mul-div_left (length xs) one
+
   -- the bytes of the element at index i
   pub packed_at : (xs : List E) (i : ℕ) (d : E) → i < length xs → take f.width (drop (i * f.width) (packed f xs)) ≡ f.coded (get_or xs i d)
   packed_at [] i d h = absurd (not-suc-le-zero h)
@@ -30,7 +36,7 @@ module _ {E : Type 0} (f : Format E) (fixed : FixedWidth f) where
       = ap (λ (k : ℕ). drop k (f.coded x ++ packed f xs)) n ∙ drop-append-add (f.coded x) (packed f xs) (i * f.width) in
       ap (take f.width) e ∙ packed_at xs i d (le_of_suc-le-suc h)
 
-  -- a list is told by its bytes
+  -- no two lists have the same bytes
   pub packed_apart : (1 ≤ f.width) → Distinct f → (xs ys : List E) → packed f xs ≡ packed f ys → xs ≡ ys
   packed_apart one distinct [] [] e = refl
   packed_apart one distinct [] (y ∷ ys) e =
@@ -58,7 +64,15 @@ module _ {E : Type 0} (f : Format E) (fixed : FixedWidth f) where
       (x.0 ∷ r.0, (λ i. x.1 i ++ r.1 i) ∙ take-append-drop w bytes, ap suc r.2)
 
   -- the same in bytes that are those of the list
-  pub part_at : (xs : List E) (bytes part : List ℕ) (i : ℕ) (d : E) → packed f xs ≡ bytes → i < length xs →
+  part_at : (xs : List E) (bytes part : List ℕ) (i : ℕ) (d : E) → packed f xs ≡ bytes → i < length xs →
       part ≡ take f.width (drop (i * f.width) bytes) → f.coded (get_or xs i d) ≡ part
   part_at xs bytes part i d e h p =
       sym (p ∙ ap (λ (l : List ℕ). take f.width (drop (i * f.width) l)) (sym e) ∙ packed_at xs i d h)
+
+  -- so what is decoded from there is the element
+  pub decoded_at : (1 ≤ f.width) → Distinct f → (xs : List E) (bytes part : List ℕ) (i : ℕ) (d sample : E) (decoded : Option E) → packed f xs ≡ bytes →
+      i < elements_in f bytes → part ≡ take f.width (drop (i * f.width) bytes) → Decoded f part decoded → get_or xs i d ≡ unwrap_or decoded sample
+  decoded_at one distinct xs bytes part i d sample None e h p decoded =
+      absurd (decoded (get_or xs i d) (part_at xs bytes part i d e (omega (arith, h, elements_in-packed one xs bytes e)) p))
+  decoded_at one distinct xs bytes part i d sample (Some x) e h p decoded =
+      distinct (get_or xs i d) x (part_at xs bytes part i d e (omega (arith, h, elements_in-packed one xs bytes e)) p ∙ sym decoded)

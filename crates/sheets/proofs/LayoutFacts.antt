@@ -1,27 +1,35 @@
--- The layout of a list: its six first bytes, and that bytes with a right header are one.
-use Rattle.std.proofs.Common.{◌≡◌, ℕ, suc, ◌+◌, ◌-◌, ◌*◌, ◌^◌, ◌<◌, ◌≤◌, List, [], ◌∷◌, length, drop, ap, ◌∙◌, mul-le-mul, arith}
-use Rattle.sheets.specs.Layouts.{Format, FixedWidth, Distinct, Bytes, big_endian, packed, layout}
-use Rattle.sheets.specs.Headers.{stated_count, most}
-use Rattle.sheets.specs.HeaderChecks.{HeaderPasses}
+-- The layout of a list: it passes the checks that need no element, and bytes that pass are one.
+use Rattle.std.proofs.Common.{◌≡◌, ℕ, suc, ◌+◌, ◌*◌, ◌%◌, ◌^◌, ◌<◌, ◌≤◌, List, [], ◌∷◌, length, refl, ap, ◌∙◌, mul-le-mul, arith}
+use native.Mathlib.Nat.{mul-mod_left}
+use Rattle.sheets.specs.Layouts.{Format, FormatLaw, Bytes, big_endian, packed, layout}
+use Rattle.sheets.specs.Refusals.{Body}
+use Rattle.sheets.specs.Headers.{body_of}
+use Rattle.elements.specs.Limits.{longest_list}
+use Rattle.sheets.proofs.HeaderPasses.{HeaderPasses}
 use Rattle.sheets.specs.Digits.{digits_of_four, four_of_digits}
-use Rattle.sheets.proofs.Bodies.{length-packed, packed_apart}
+use Rattle.sheets.proofs.Bodies.{length-packed, elements_in-packed, packed_apart}
 
-module _ {E : Type 0} (f : Format E) (fixed : FixedWidth f) (few : f.width ≤ 8) where
-  -- the header of a layout passes its checks
-  pub layout_long : (xs : List E) → length (layout f xs) ≡ 6 + length xs * f.width
-  layout_long xs = omega (arith, length-packed f fixed xs)
+module _ {E : Type 0} (f : Format E) {each : ℕ} (law : FormatLaw f each) where
+  -- no two lists have one layout
+  pub layouts_apart : (xs ys : List E) → layout f xs ≡ layout f ys → xs ≡ ys
+  layouts_apart xs ys e = packed_apart f law.fixed law.some law.distinct xs ys (ap body_of e)
 
-  packed_small : (xs : List E) → length xs ≤ most → suc (length (packed f xs)) < 2 ^ 32
-  packed_small xs h = omega (arith, length-packed f fixed xs, mul-le-mul h few)
+  -- the layout of a list that is not too long passes the checks that need no element
+  pub layout_passes : (xs : List E) → length xs ≤ longest_list → HeaderPasses f (layout f xs)
+  layout_passes xs few =
+      let long = length-packed f law.fixed xs in
+      let small : suc (length (packed f xs)) < 2 ^ 32 = omega (arith, long, mul-le-mul few law.few) in
+      record {
+        long = omega arith;
+        versioned = refl;
+        counted = four_of_digits (suc (length (packed f xs))) small ∙ omega arith;
+        wanted = refl;
+        whole = ap (λ (n : ℕ). n % f.width) long ∙ mul-mod_left (length xs) f.width;
+        few = rw (elements_in-packed f law.fixed law.some xs (packed f xs) refl) few;
+      }
 
-  pub layout_counted : (xs : List E) → length xs ≤ most → stated_count (layout f xs) ≡ length (layout f xs) - 5
-  layout_counted xs h = four_of_digits (suc (length (packed f xs))) (packed_small xs h) ∙ omega arith
-
-  pub layouts_apart : (1 ≤ f.width) → Distinct f → (xs ys : List E) → layout f xs ≡ layout f ys → xs ≡ ys
-  layouts_apart one distinct xs ys e = packed_apart f fixed one distinct xs ys (ap (λ (l : List ℕ). drop 6 l) e)
-
--- bytes whose header passes are the layout of the list in their body
-pub laid_out : {E : Type 0} (f : Format E) (bytes : List ℕ) (xs : List E) → Bytes bytes → HeaderPasses f bytes → packed f xs ≡ drop 6 bytes → bytes ≡ layout f xs
+-- bytes that pass are the layout of the list in their body
+pub laid_out : {E : Type 0} (f : Format E) (bytes : List ℕ) (xs : List E) → Bytes bytes → HeaderPasses f bytes → Body f bytes xs → bytes ≡ layout f xs
 laid_out f [] xs h p e = absurd (omega (arith, p.long))
 laid_out f (a ∷ []) xs h p e = absurd (omega (arith, p.long))
 laid_out f (a ∷ b ∷ []) xs h p e = absurd (omega (arith, p.long))

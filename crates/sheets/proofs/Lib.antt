@@ -1,5 +1,6 @@
 pub mod Bodies
-pub mod Filling
-pub mod Falls
+pub mod FilledSlices
+pub mod HeaderPasses
 pub mod LayoutFacts
 pub mod Decisions
+pub mod ReadAs

@@ -9,7 +9,7 @@ abbrev pub byte_of : Kind → ℕ
 byte_of Delays = 1
 byte_of LinkLevels = 2
 
--- what is told of a byte: the kind that it names, or the byte itself where it names none
+-- what answers for a byte: the kind that it names, or the byte itself where it names none
 abbrev pub NamesKind : ℕ → Result Kind UnknownKind → Type 0
 NamesKind byte (Ok kind) = byte_of kind ≡ byte
 NamesKind byte (Err unknown) = (unknown.0 ≡ byte) × ((kind : Kind) → byte_of kind ≢ byte)

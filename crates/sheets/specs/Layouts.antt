@@ -1,5 +1,5 @@
 -- How a list is laid out as the bytes of a sheet.
-use Rattle.std.specs.Prelude.{◌≡◌, ℕ, zero, suc, ◌+◌, ◌*◌, ◌/◌, ◌%◌, ◌^◌, ◌<◌, List, [], ◌∷◌, ◌++◌, length, Some, None, Option, ◌≢◌, slice_index}
+use Rattle.std.specs.Prelude.{◌≡◌, ℕ, zero, suc, ◌+◌, ◌*◌, ◌/◌, ◌%◌, ◌^◌, ◌<◌, ◌≤◌, List, [], ◌∷◌, ◌++◌, length, Some, None, Option, ◌≢◌, slice_index}
 
 -- the last w digits of n to base 256, the highest first
 abbrev pub big_endian : ℕ → ℕ → List ℕ
@@ -10,7 +10,7 @@ big_endian (suc w) n = (n / 256 ^ w) % 256 ∷ big_endian w n
 abbrev pub four : ℕ → ℕ → ℕ → ℕ → ℕ
 four a b c d = a * 16777216 + b * 65536 + c * 256 + d
 
--- what a sheet has to know of its elements: the byte that tells their kind, and the bytes of each
+-- what a sheet has to know of its elements: the byte that names their kind, and the bytes of each
 pub record Format (E : Type 0) : Type 0 where
   pub kind : ℕ
   pub width : ℕ
@@ -30,6 +30,16 @@ Bytes bytes = (i : ℕ) → slice_index bytes i < 256
 -- any bytes of the right number are some element's
 abbrev pub Complete : {E : Type 0} → Format E → Type 0
 Complete {E} f = (bytes : List ℕ) → length bytes ≡ f.width → Bytes bytes → (x : E) × (f.coded x ≡ bytes)
+
+-- The law of a type that is carried on sheets: an element has as many bytes as is stated, from 1 to 8, the same for each; no two
+-- elements have the same bytes, and any bytes of that number are some element's.
+pub record FormatLaw {E : Type 0} (f : Format E) (bytes_each : ℕ) : Type 0 where
+  pub each : bytes_each ≡ f.width
+  pub some : 1 ≤ f.width
+  pub few : f.width ≤ 8
+  pub fixed : FixedWidth f
+  pub distinct : Distinct f
+  pub complete : Complete f
 
 -- what answers the call for the element with these bytes: it, or none where there is none
 abbrev pub Decoded : {E : Type 0} → Format E → List ℕ → Option E → Type 0

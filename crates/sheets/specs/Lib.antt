@@ -2,8 +2,10 @@ pub mod Kinds
 pub mod Layouts
 pub mod Formats
 pub mod Headers
-pub mod HeaderChecks
 pub mod Refusals
 pub mod Readings
 pub mod Digits
 pub mod Levels
+pub mod Summaries
+pub mod Printing
+pub mod SheetSummaries

@@ -1,14 +1,19 @@
-ghost use Rattle.sheets.specs.HeaderChecks.{HeaderChecked};
+ghost use Rattle.std.specs.Prelude.{◌≡◌, Some, None, IfOk};
+ghost use Rattle.std.specs.Result.{IfErr};
+ghost use Rattle.sheets.specs.Headers.{body_of};
+ghost use Rattle.sheets.specs.Refusals.{header_refusal};
 
 use crate::body::Body;
-use crate::reader::MOST_ELEMENTS;
 use crate::sheet_element::SheetElement;
+use elements::limits::LONGEST_LIST;
 use faults::refusal::Refusal;
 use std::marker::PhantomData;
 
 /// The body of a sheet, where version, count and kind are right, and it is a whole number of elements and not too many.
 pub(crate) fn check_header<T: SheetElement>(bytes: &[u8]) -> Result<Body<'_, T>, Refusal>
-    ensures { HeaderChecked (λ b. b.bytes.now) T.SheetElement.format bytes.now result }
+    ensures passes { IfOk result (λ _. header_refusal T.SheetElement.format bytes.now ≡ None) }
+    ensures body { IfOk result (λ body. body.bytes.now ≡ body_of bytes.now) }
+    ensures refused { IfErr result (λ refusal. header_refusal T.SheetElement.format bytes.now ≡ Some refusal) }
 {
     let [version, a, b, c, d, kind, body @ ..] = bytes else {
         return Err(Refusal::SheetTooShort);
@@ -22,7 +27,7 @@ pub(crate) fn check_header<T: SheetElement>(bytes: &[u8]) -> Result<Body<'_, T>,
     if *kind != T::kind().byte() {
         return Err(Refusal::KindNotWanted);
     }
-    if body.len() % T::BYTES_EACH != 0 || MOST_ELEMENTS * T::BYTES_EACH < body.len() {
+    if body.len() % T::BYTES_EACH != 0 || body.len() / T::BYTES_EACH > LONGEST_LIST as usize {
         return Err(Refusal::BodyNotAList);
     }
     Ok(Body {

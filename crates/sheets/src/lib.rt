@@ -1,11 +1,11 @@
-//! Sheets: sealed lists of elements as bytes, and the reader that checks them.
+//! Sheets: sealed lists of elements as bytes, the reader that checks them, and what a sheet's list comes to in short.
 #![tactic(auto)]
 
 mod body;
-mod body_reading;
-pub mod delay_sheet;
 mod header;
 pub mod kind;
-pub mod link_level_sheet;
 pub mod reader;
 pub mod sheet_element;
+pub mod sheet_summary;
+mod sorted_list;
+pub mod summary;

@@ -1,33 +1,31 @@
 ghost use Rattle.std.specs.Prelude.{◌≡◌};
-ghost use Rattle.sheets.specs.Readings.{for_seat, Reads, Answers, ReaderLaw};
+ghost use Rattle.sheets.specs.Readings.{with_seat, Reads, Answers, ReaderLaw};
 
 use crate::header::check_header;
 use crate::sheet_element::SheetElement;
-use elements::limits::LONGEST_LIST;
-use faults::fault::{Seat, SheetFault};
+use elements::limits::saturated;
+use faults::fault::SheetFault;
 use faults::refusal::Refusal;
-
-/// A sheet has at most so many elements.
-pub const MOST_ELEMENTS: usize = LONGEST_LIST as usize;
+use faults::seat::Seat;
 
 /// Reads the list of a sheet into the slice, and answers its length.
 fn read_list<T: SheetElement>(bytes: &[u8], list: &mut [T]) -> Result<usize, Refusal>
     ensures { Reads T.Ordered.before T.SheetElement.format bytes.now list.old list.new result }
 {
     let body = check_header::<T>(bytes)?;
-    if let Some(spot) = body.first_fall() {
-        return Err(Refusal::OutOfOrder(spot));
+    if let Some(number) = body.first_fall() {
+        return Err(Refusal::OutOfOrder(saturated(number as u64)));
     }
-    if !body.fits(list) {
+    if list.len() < body.len() {
         return Err(Refusal::SliceTooShort);
     }
     body.fill(list);
     Ok(body.len())
 }
 
-/// What a reading answers, told to the seat that it was made for.
-fn told_to(seat: Option<Seat>, read: Result<usize, Refusal>) -> Result<usize, SheetFault>
-    ensures { result ≡ for_seat seat read }
+/// What a reading answers, for the seat that it was made for.
+fn with_seat(seat: Option<Seat>, read: Result<usize, Refusal>) -> Result<usize, SheetFault>
+    ensures { result ≡ with_seat seat read }
 {
     read.map_err(|refusal| SheetFault { refusal, seat })
 }
@@ -42,5 +40,5 @@ pub fn read_sheet<T: SheetElement>(
     ensures answers { Answers T.Ordered.before T.SheetElement.format bytes.now list.old list.new seat result }
     ensures law { ReaderLaw T.Ordered.before T.SheetElement.format bytes.now list.old list.new result }
 {
-    told_to(seat, read_list(bytes, list))
+    with_seat(seat, read_list(bytes, list))
 }

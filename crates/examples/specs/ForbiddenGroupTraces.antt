@@ -1,0 +1,69 @@
+-- Traces of a group that the history law forbids. Three seats declare 2, 1 and 2 elements from 0 to 15, for rank 3; elements are
+-- numbers, and their places too. What honest seats have is 3, 9, and 4, and 9, 12.
+use Rattle.std.specs.Prelude.{ℕ, [], ◌∷◌, Some, Ok, Err, Result, nat_lt}
+use Rattle.faults.specs.declared.fault.RunFault.{RunFault}
+use Rattle.faults.specs.declared.fault.RunFault.TheVariants.{Own}
+use Rattle.faults.specs.declared.seat.Seat.TheVariants.{Numbered}
+use Rattle.faults.specs.declared.refusal.Refusal.{Refusal}
+use Rattle.faults.specs.declared.refusal.Refusal.TheVariants.{NotItsTurn, Impossible}
+use Rattle.group.specs.GroupProtocol.{group_protocol}
+use Rattle.group.specs.Histories.{GroupTrace}
+use Rattle.referees.specs.declared.verdict.GroupVerdict.{GroupVerdict}
+use Rattle.referees.specs.declared.verdict.GroupVerdict.TheVariants.{Lower, Higher, Done}
+use Rattle.runs.specs.HistoryLaw.{HistoryLaw}
+use Rattle.runs.specs.Traces.{reported, stepped, finished, broken_off}
+use Rattle.group.specs.declared.counts.Counts.{Counts}
+
+-- a number is its own place
+abbrev pub itself : ℕ → ℕ
+itself x = x
+
+-- the law cannot hold of a trace
+abbrev pub Forbids : GroupTrace ℕ → Type 0
+Forbids trace = HistoryLaw (group_protocol nat_lt itself (2 ∷ 1 ∷ 2 ∷ []) 0 15 3) trace → ⊥
+
+abbrev pub counts : (below above : ℕ) → Counts
+counts below above = record { below = below; above = above }
+
+-- how seat 1's report is refused
+abbrev pub refused : Refusal → Result (Unit {0}) RunFault
+refused refusal = Err (Own refusal (Some (Numbered 1)))
+
+-- the three seats' counts, accepted, and what the referee is said to answer, after some rounds
+abbrev pub round : Counts → Counts → Counts → GroupVerdict → GroupTrace ℕ → GroupTrace ℕ
+round one two three verdict past =
+    stepped (Ok verdict) ∷ reported 3 three (Ok tt) ∷ reported 2 two (Ok tt) ∷ reported 1 one (Ok tt) ∷ past
+
+-- the honest rounds at 8 and at 12, with what the referee is said to answer
+abbrev pub at_8 : GroupVerdict → GroupTrace ℕ
+at_8 verdict = round (counts 1 1) (counts 1 0) (counts 0 2) verdict []
+
+abbrev pub at_12 : GroupVerdict → GroupTrace ℕ
+at_12 verdict = round (counts 2 0) (counts 1 0) (counts 1 0) verdict (at_8 Higher)
+
+-- and those at 10 and at 9, the last
+abbrev pub at_10 : GroupTrace ℕ
+at_10 = round (counts 2 0) (counts 1 0) (counts 1 1) Lower (at_12 Lower)
+
+abbrev pub at_9 : GroupTrace ℕ
+at_9 = round (counts 1 0) (counts 1 0) (counts 0 1) Done at_10
+
+pub record GroupLawForbids : Type 0 where
+  -- possible counts refused as impossible, or as out of turn
+  pub refuses_possible : Forbids (reported 1 (counts 1 1) (refused Impossible) ∷ [])
+  pub refuses_in_turn : Forbids (reported 1 (counts 1 1) (refused NotItsTurn) ∷ [])
+  -- impossible counts accepted, which only the rule at the edge of the range keeps out: two places below 9
+  pub accepts_impossible : Forbids (reported 1 (counts 2 0) (Ok tt) ∷ at_10)
+  -- a second report in one round accepted, and one of a seat that there is not
+  pub accepts_out_of_turn : Forbids (reported 1 (counts 1 1) (Ok tt) ∷ reported 1 (counts 1 1) (Ok tt) ∷ [])
+  pub accepts_unknown_seat : Forbids (reported 4 (counts 1 1) (Ok tt) ∷ [])
+  -- a result of another rank, and counts that nobody made, at the finish and at a break-off
+  pub other_result : Forbids (finished 4 4 ∷ at_9)
+  pub wrong_count : Forbids (finished 9 3 ∷ at_9)
+  pub wrong_break_off : Forbids (broken_off 2 ∷ at_8 Higher)
+  -- always the verdict lower: at 8 the element of rank 3 is above
+  pub same_verdict : Forbids (at_8 Lower)
+  -- a true first verdict and a guess after it: at 12 it is below
+  pub guessed_verdict : Forbids (at_12 Higher)
+  -- a finish before the verdict is done
+  pub early_finish : Forbids (finished 9 2 ∷ at_12 Lower)

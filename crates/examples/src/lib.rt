@@ -1,0 +1,8 @@
+//! Examples: what the definitions give, worked out by hand; traces that the law forbids; a fault carried through the layers.
+#![tactic(auto)]
+
+pub mod fault_conversion;
+pub mod forbidden;
+#[cfg(test)]
+mod tests;
+pub mod worked;

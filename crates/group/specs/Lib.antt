@@ -1,0 +1,17 @@
+pub mod Ranges
+pub mod SeatCounts
+pub mod Searches
+pub mod SeatRules
+pub mod Exchanges
+pub mod GroupLaws
+pub mod NarrowedRange
+pub mod SeatStates
+pub mod SeatTotals
+pub mod SeatTables
+pub mod WeaveLength
+pub mod SeatValues
+pub mod SeatCalls
+pub mod GroupCalls
+pub mod Histories
+pub mod GroupProtocol
+pub mod GroupHistoryLaw

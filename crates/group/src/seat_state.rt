@@ -1,0 +1,90 @@
+ghost use Rattle.std.specs.Prelude.{◌+◌, ◌≤◌, IfSome, ◌≡◌};
+ghost use Rattle.elements.specs.Limits.{longest_list};
+ghost use Rattle.std.proofs.Props.{props};
+ghost use Rattle.group.specs.SeatRules.{bounds_after};
+
+use crate::count_bounds::CountBounds;
+use crate::counts::Counts;
+use crate::range::Range;
+use elements::limits::LONGEST_LIST;
+use referees::verdict::GroupVerdict;
+
+/// What is known of a seat, and the counts that it has reported in this round, if it has. No declared length is over
+/// 65,536, and the counts fit in it, so that a table's add up to numbers of 32 bits.
+#[derive(Clone, Copy, Debug, PartialEq, Eq)]
+pub struct SeatState {
+    pub known: CountBounds,
+    pub given: Option<Counts>,
+    ghost short: { known.declared ≤ longest_list },
+    ghost fits: { IfSome given (λ counts. counts.below + counts.above ≤ known.declared) } by { Prim.hlevel props },
+}
+
+impl SeatState {
+    ghost use Rattle.group.specs.SeatStates.{IsNewSeat, IsReporting, IsAfter};
+
+    /// The state of a seat that has declared a length, before any round, or none where that is too long.
+    pub(crate) fn new(declared: u32) -> Option<SeatState>
+        ensures { IsNewSeat declared result }
+    {
+        if declared > LONGEST_LIST {
+            return None;
+        }
+        let known = CountBounds {
+            declared,
+            low: 0,
+            high: 0,
+        };
+        Some(SeatState { known, given: None })
+    }
+
+    /// The state with counts that its seat reports at the target of a range, or none where the seat cannot have them.
+    pub(crate) fn reporting(self, range: Range, counts: Counts) -> Option<SeatState>
+        ensures { IsReporting self range counts result }
+    {
+        if !range.keeps_rules(self.known, counts) {
+            return None;
+        }
+        Some(SeatState {
+            known: self.known,
+            given: Some(counts),
+        })
+    }
+
+    /// The state after a verdict: what the seat gave has shown more of it, and it has given nothing yet.
+    pub(crate) fn after(self, verdict: GroupVerdict) -> SeatState
+        ensures { IsAfter verdict self result }
+    {
+        match self.given {
+            Some(counts) => SeatState {
+                known: learned(self.known, verdict, counts),
+                given: None,
+            },
+            None => self,
+        }
+    }
+}
+
+/// What is known of a seat after a verdict, from the counts that it gave.
+fn learned(known: CountBounds, verdict: GroupVerdict, counts: Counts) -> CountBounds
+    ensures exact { result ≡ bounds_after verdict known counts }
+    ensures same_length { result.declared ≡ known.declared }
+{
+    let CountBounds {
+        declared,
+        low,
+        high,
+    } = known;
+    match verdict {
+        GroupVerdict::Lower => CountBounds {
+            declared,
+            low,
+            high: declared.saturating_sub(counts.below),
+        },
+        GroupVerdict::Higher => CountBounds {
+            declared,
+            low: declared.saturating_sub(counts.above),
+            high,
+        },
+        GroupVerdict::Done => known,
+    }
+}

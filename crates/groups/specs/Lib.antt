@@ -1,2 +1,0 @@
-pub mod GroupProtocol
-pub mod GroupHistories

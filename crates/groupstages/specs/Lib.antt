@@ -1,2 +1,0 @@
-pub mod Calls
-pub mod Histories

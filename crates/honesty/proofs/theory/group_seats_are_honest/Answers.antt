@@ -1,5 +1,0 @@
-use Rattle.honesty.proofs.OfGroup.{group_seats_are_honest}
-use Rattle.honesty.proofs.theory.group_seats_are_honest.Goals as goal
-
-pub returns : goal.returns
-returns g c = group_seats_are_honest g.T.Ordered.before g.T.Ordered.sample g.T.Placed.place g.T.Placed.LOWEST g.T.Placed.HIGHEST

@@ -1,2 +1,0 @@
-pub mod OfPair
-pub mod OfGroup

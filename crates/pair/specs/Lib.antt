@@ -1,0 +1,16 @@
+pub mod Sides
+pub mod Rows
+pub mod Bisection
+pub mod Rebuilds
+pub mod PairReports
+pub mod SeatBounds
+pub mod Exchanges
+pub mod PairLaws
+pub mod Powers
+pub mod HalvedWindow
+pub mod WindowLaws
+pub mod SeatStates
+pub mod PairCalls
+pub mod Histories
+pub mod PairProtocol
+pub mod PairHistoryLaw

@@ -1,7 +1,0 @@
--- A refused report of A is the answer of both, and B's seat reports nothing.
-use Rattle.std.proofs.Common.{rules, Err, refl}
-use Rattle.pairplay.proofs.rounds.report_both.Goals as goal
-
-pub returns-in_err-report_one : goal.returns-in_err-report_one
-returns-in_err-report_one g c =
-    (c.report_one.new.run.progress, Err c.in_err-report_one.field-0.0, c.in_err-report_one.ensures, (search rules, refl))

@@ -1,2 +1,0 @@
-pub mod PairProtocol
-pub mod PairHistories

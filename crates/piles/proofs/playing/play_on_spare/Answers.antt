@@ -1,6 +1,0 @@
-use Rattle.std.proofs.Common.{rules}
-use Rattle.piles.proofs.Tallies.{played_from}
-use Rattle.piles.proofs.playing.play_on_spare.Goals as goal
-
-pub returns : goal.returns
-returns g c = played_from g.T.Ordered.before _ _ _ _ _ _ (search rules) c.play.ensures.played

@@ -1,2 +1,0 @@
-pub mod Truths
-pub mod Words

@@ -1,4 +1,0 @@
-pub mod Powers
-pub mod Counting
-pub mod Sorting
-pub mod Ranking

@@ -1,0 +1,9 @@
+pub use Rattle.faults.specs as Faults
+pub use Rattle.elements.specs as Elements
+pub use Rattle.sheets.specs as Sheets
+pub use Rattle.referees.specs as Referees
+pub use Rattle.runs.specs as Runs
+pub use Rattle.pair.specs as Pair
+pub use Rattle.group.specs as Group
+pub use Rattle.seats.specs as Seats
+pub use Rattle.requests.specs as Requests

@@ -1,2 +1,0 @@
-pub mod Weaves
-pub mod Totalling

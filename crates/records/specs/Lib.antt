@@ -1,4 +1,0 @@
-pub mod Records
-pub mod Totals
-pub mod Nesting
-pub mod Weaving

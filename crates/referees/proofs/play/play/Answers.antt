@@ -1,0 +1,17 @@
+use Rattle.std.proofs.Common.{◌∙◌, arith}
+use Rattle.referees.proofs.Turns.{turn, answered_below, refused_from}
+use Rattle.referees.proofs.play.play.Goals as goal
+use Rattle.referees.proofs.play.play.Goals.{then-is_answered, else-is_answered}
+
+pub loop-line-preserved : goal.loop-line-preserved
+loop-line-preserved g c =
+    let inv = c.loop-line.invariant in
+    let line = c.ask_line.ensures.line in record {
+      played = turn _ _ _ _ _ _ _ _ (omega arith) inv.played inv.paid line;
+      answered = elim c.if-is_answered.branch [
+        | then-is_answered w ↦ omega (arith, answered_below _ _ _ _ _ _ inv.paid line w.if-is_answered.ensures, w.answered-is, inv.answered)
+        | else-is_answered w ↦ omega (arith, refused_from _ _ _ _ _ _ inv.paid line w.if-is_answered.ensures, w.answered-is, inv.answered)
+      ];
+      paid = omega (arith, inv.paid, c.ask_line.ensures.cost);
+      empty_stays = λ e. c.ask_line.ensures.empty_stays (omega (arith, inv.paid)) ∙ inv.empty_stays e;
+    }

@@ -1,0 +1,51 @@
+ghost use Rattle.std.specs.Prelude.{None, IfOk, take};
+ghost use Rattle.elements.specs.Delays.{delay_before};
+ghost use Rattle.requests.specs.RequestAnswers.{ReadsFor, Answers};
+ghost use Rattle.seats.specs.ListRefusals.{IsListRefusal};
+
+use crate::request::Request;
+use elements::delay::Delay;
+use faults::fault::{RunFault, SeatFault};
+use faults::refusal::Refusal;
+use faults::seat::Seat;
+use referees::plain::Plain;
+use referees::verdict::PairVerdict;
+use runs::finished::Finished;
+use seats::honest_run::find_rank;
+use sheets::reader::read_sheet;
+
+/// The stock of the referee: more than any run needs.
+const STOCK: u64 = 64;
+
+/// Reads a seat's sheet; a fault of the sheet stands whole in the seat's.
+#[tactic(auto, using(crate::proofs::ReadLists::read_unrefused))]
+fn read_for(seat: Seat, bytes: &[u8], list: &mut [Delay]) -> Result<usize, SeatFault>
+    ensures reads { ReadsFor seat bytes.now list.old list.new result }
+    ensures unrefused { IfOk result (λ count. IsListRefusal delay_before (take count list.new) None) }
+{
+    Ok(read_sheet(bytes, Some(seat), list)?)
+}
+
+/// Answers a request: checks A's sheet, then B's, then opens a run and plays it to its end over a plain referee. The lists are
+/// read into two slices, and the verdicts are noted from the log's start.
+pub fn answer(
+    bytes: &[u8],
+    a: &mut [Delay],
+    b: &mut [Delay],
+    log: &mut [PairVerdict],
+) -> Result<Finished<Delay>, RunFault>
+    ensures { Answers bytes.now (record { a = a.old; b = b.old; log = log.old }) (record { a = a.new; b = b.new; log = log.new }) result }
+{
+    let Some(request) = Request::parse(bytes) else {
+        return Err(RunFault::Own(Refusal::RankOutOfBounds, None));
+    };
+    let of_a = read_for(Seat::A, request.a, a)?;
+    let of_b = read_for(Seat::B, request.b, b)?;
+    find_rank(
+        &a[..of_a],
+        &b[..of_b],
+        request.rank,
+        &mut Plain::new(STOCK),
+        log,
+    )
+}

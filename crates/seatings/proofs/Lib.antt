@@ -1,4 +1,0 @@
-pub mod Seated
-pub mod After
-pub mod Idle
-pub mod Gathering

@@ -1,3 +1,0 @@
-pub mod Summaries
-pub mod Words
-pub mod Reports

@@ -1,2 +1,0 @@
-pub mod Halvings
-pub mod Following

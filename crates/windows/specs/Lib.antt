@@ -1,3 +1,0 @@
-pub mod Powers
-pub mod Windows
-pub mod Laws
