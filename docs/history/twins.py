@@ -1,6 +1,6 @@
 """Lists functions and types that are the same but for names of types, values and numbers.
 
-    python3 tools/twins.py [COMMIT]
+    python3 docs/history/twins.py [COMMIT]
 
 Reads crates/*/src/*.rt, of a commit or as they lie there. Of each function it takes the body, of each struct and enum the
 fields or variants; it puts one word for every name and one for every number and text, and prints the groups of two or more

@@ -1,7 +1,7 @@
 #!/usr/bin/env python3
 """Respells this repository's own definitions and lemmas from dashes to today's spelling, once, right after port.py.
 
-usage: python3 tools/respell_names.py      at the top of the checkout
+usage: python3 docs/history/respell_names.py      at the top of the checkout
 
 A definition, a field or a lemma that its name makes one phrase takes underscores. A lemma on a pair of definitions keeps
 the dash between them (JOINED). Names that Rattle makes (the goals in Answers, Invariants and Choices files), comments and
