@@ -118,11 +118,11 @@ fn report_all(run: &mut Run<Delay, Comparing>, lists: &[Delays<'_>]) -> Result<(
 /// Plays a run to its end, as long as there is room for its rounds.
 fn play<R: Referee<Delay>>(
     mut run: Run<Delay, Comparing>,
-    slip: Slip<OfGroup>,
+    slip: Slip<OfGroup, Delay>,
     lists: &[Delays<'_>],
     referee: &mut R,
     rounds: &mut [Round],
-) -> Result<Option<Finished<Delay>>, RunFault> {
+) -> Result<Option<Finished<OfGroup, Delay>>, RunFault> {
     let [round, later @ ..] = rounds else {
         run.break_off(slip);
         return Ok(None);
@@ -162,7 +162,7 @@ fn play<R: Referee<Delay>>(
 fn print_rounds(
     rt: &HostRuntime,
     rounds: &[Round],
-    came: Result<Option<Finished<Delay>>, RunFault>,
+    came: Result<Option<Finished<OfGroup, Delay>>, RunFault>,
 ) -> io::Result<()> {
     for round in rounds {
         if let Some(verdict) = round.verdict {
@@ -171,7 +171,11 @@ fn print_rounds(
         }
     }
     match came {
-        Ok(Some(Finished { result, count })) => println!(rt; "result {result}, count {count}"),
+        Ok(Some(finished)) => println!(rt;
+            "result {}, count {}",
+            finished.result(),
+            finished.count()
+        ),
         Ok(None) => println!(rt; "no room for the rounds"),
         Err(fault) => println!(rt; "{fault}"),
     }
@@ -191,9 +195,9 @@ fn run_of(
     lists: &[Delays<'_>],
     hi: u64,
     rank: u32,
-    words: &[u64],
+    words: &mut [u64],
     rounds: &mut [Round],
-) -> Result<Option<Finished<Delay>>, RunFault> {
+) -> Result<Option<Finished<OfGroup, Delay>>, RunFault> {
     let (run, slip) = open_group(lengths, 0, hi, rank)?;
     play(run, slip, lists, &mut Strip::new(words), rounds)
 }
@@ -203,11 +207,11 @@ pub(crate) fn print_runs(rt: &HostRuntime) -> io::Result<()> {
     let mut rounds = no_rounds();
     let three: [Delays<'_>; 3] = [&[delay(3), delay(9)], &[delay(4)], &[delay(9), delay(12)]];
     println!(rt; "seats 3, 9 / 4 / 9, 12, rank 3")?;
-    let came = run_of(&[2, 1, 2], &three, 15, 3, &[7; 32], &mut rounds);
+    let came = run_of(&[2, 1, 2], &three, 15, 3, &mut [7; 32], &mut rounds);
     print_rounds(rt, &rounds, came)?;
     println!(rt; "the same over a strip of five words")?;
     let mut rounds = no_rounds();
-    let came = run_of(&[2, 1, 2], &three, 15, 3, &[7; 5], &mut rounds);
+    let came = run_of(&[2, 1, 2], &three, 15, 3, &mut [7; 5], &mut rounds);
     print_rounds(rt, &rounds, came)?;
     println!(rt; "16 seats of one delay each, from 10 to 160, rank 8")?;
     let sixteen: [Delays<'_>; 16] = [
@@ -229,6 +233,6 @@ pub(crate) fn print_runs(rt: &HostRuntime) -> io::Result<()> {
         &[delay(90)],
     ];
     let mut rounds = no_rounds();
-    let came = run_of(&[1; 16], &sixteen, 200, 8, &[7; 32], &mut rounds);
+    let came = run_of(&[1; 16], &sixteen, 200, 8, &mut [7; 32], &mut rounds);
     print_rounds(rt, &rounds, came)
 }

@@ -1,7 +1,7 @@
 use rankunit::{
-    Comparing, Delay, Entry, OfPair, Ordered, PairAdvanced as Advanced, PairRun as Run,
-    PairVerdict, Plain, Refused, RequestOutcome, RunFault, Side, Slip, StagedPairRun as StagedRun,
-    answer_request, open_pair,
+    Comparing, Delay, Entry, OfPair, PairAdvanced as Advanced, PairRun as Run, PairVerdict, Plain,
+    Refused, RequestOutcome, RunFault, Side, Slip, StagedPairRun as StagedRun, answer_request,
+    open_pair,
 };
 use std::io;
 
@@ -17,18 +17,10 @@ pub(crate) fn print_answer(
     }
 }
 
-/// Ends a run in whichever stage it is.
-fn break_off<T: Ordered>(stage: StagedRun<T>, slip: Slip<OfPair>) -> u32 {
-    match stage {
-        StagedRun::Comparing(run) => run.break_off(slip),
-        StagedRun::Closing(run) => run.break_off(slip),
-    }
-}
-
 /// How an opening is answered; an accepted one is broken off at once.
 fn opened(a: u32, b: u32, rank: u32) -> Result<(), RunFault> {
     let (stage, slip) = open_pair::<Delay>(a, b, rank)?;
-    break_off(stage, slip);
+    stage.break_off(slip);
     Ok(())
 }
 
@@ -82,7 +74,7 @@ fn lie_and_own_up(run: &mut Run<Delay, Comparing>, answers: &mut Answers) {
 }
 
 /// Steps too early, then has 40 and 31 reported and steps, over a referee of some stock; then A lies.
-fn play(run: Run<Delay, Comparing>, slip: Slip<OfPair>, stock: u64) -> Answers {
+fn play(run: Run<Delay, Comparing>, slip: Slip<OfPair, Delay>, stock: u64) -> Answers {
     let mut referee = Plain::new(stock);
     let mut answers = no_answers();
     let mut run = match run.step(&mut referee) {
@@ -91,7 +83,7 @@ fn play(run: Run<Delay, Comparing>, slip: Slip<OfPair>, stock: u64) -> Answers {
             run
         }
         Ok(Advanced { verdict: _, run }) => {
-            answers.made = break_off(run, slip);
+            answers.made = run.break_off(slip);
             return answers;
         }
     };
@@ -111,7 +103,7 @@ fn play(run: Run<Delay, Comparing>, slip: Slip<OfPair>, stock: u64) -> Answers {
 }
 
 /// Lets A lie in a run that is comparing, and ends the run.
-fn go_on(stage: StagedRun<Delay>, slip: Slip<OfPair>, answers: &mut Answers) -> u32 {
+fn go_on(stage: StagedRun<Delay>, slip: Slip<OfPair, Delay>, answers: &mut Answers) -> u32 {
     match stage {
         StagedRun::Comparing(mut run) => {
             lie_and_own_up(&mut run, answers);
@@ -127,7 +119,7 @@ fn played(stock: u64) -> Result<Answers, RunFault> {
     match stage {
         StagedRun::Comparing(run) => Ok(play(run, slip, stock)),
         closing => {
-            break_off(closing, slip);
+            closing.break_off(slip);
             Ok(no_answers())
         }
     }

@@ -1,5 +1,5 @@
 -- What the law of a group's histories forbids.
-use Rattle.std.proofs.Common.{◌≡◌, ℕ, zero, suc, ◌+◌, ◌≤◌, Bool, true, ◌&&◌, leb, nat_lt, List, [], ◌∷◌, get_or, refl, arith}
+use Rattle.std.proofs.Common.{◌≡◌, ℕ, zero, suc, ◌+◌, ◌<◌, ◌≤◌, Bool, true, false, ◌&&◌, ◌==◌, leb, nat_lt, List, [], ◌∷◌, get_or, refl, arith}
 use Rattle.std.proofs.lemmas.Bool.{both_ways, and_parts, leb-true}
 use Rattle.elements.specs.Orders.{OneElementEach}
 use Rattle.group.specs.GroupProtocol.{group_protocol}
@@ -8,12 +8,16 @@ use Rattle.elements.specs.Ranks.{joint, Ranked}
 use Rattle.referees.specs.declared.verdict.GroupVerdict.{GroupVerdict}
 use Rattle.referees.specs.declared.verdict.GroupVerdict.TheVariants.{Lower, Higher, Done}
 use Rattle.runs.specs.HistoryLaw.{ExplainAll}
+use Rattle.runs.specs.Protocols.{Protocol}
+use Rattle.runs.specs.Traces.{has_reported}
 use Rattle.group.specs.SeatCounts.{Within}
 use Rattle.group.specs.Ranges.{target}
 use Rattle.group.specs.Searches.{Search, done, lower, higher}
-use Rattle.group.specs.SeatRules.{Round, round as one_round, NeverEmpty, reports, Explains}
+use Rattle.group.specs.SeatRules.{Round, round as one_round, NeverEmpty, Report, reports, Explains}
+use Rattle.group.specs.declared.counts.Counts.{Counts}
 use Rattle.group.proofs.Explained.{explained_if_possible}
-use Rattle.examples.specs.ForbiddenGroupTraces.{GroupLawForbids, itself, counts, at_8, at_12, at_9}
+use Rattle.examples.specs.ForbiddenGroupTraces.{GroupLawForbids, itself, counts, all_reported, at_8, at_12, at_9}
+use Rattle.examples.proofs.AskedAnswers.{accepted_shows, missing_shows, empty_shows}
 
 -- the honest lists
 abbrev lists : List (List ℕ)
@@ -44,9 +48,13 @@ never_ends_lower (lower order is run) = no_verdicts run
 each_one : OneElementEach itself 0 15
 each_one n low high = (n, refl, λ y e. e)
 
+-- the protocol of these seats
+abbrev honest_protocol : Protocol ℕ Counts GroupVerdict ℕ Report
+honest_protocol = group_protocol nat_lt itself (2 ∷ 1 ∷ 2 ∷ []) 0 15 3
+
 -- lists that explain a trace
 abbrev ExplainTrace : GroupTrace ℕ → Type 0
-ExplainTrace trace = ExplainAll (group_protocol nat_lt itself (2 ∷ 1 ∷ 2 ∷ []) 0 15 3) lists trace
+ExplainTrace trace = ExplainAll honest_protocol lists trace
 
 -- there are three seats
 abbrev AtSeats : (ℕ → Type 0) → Type 0
@@ -134,18 +142,18 @@ none_explains_newest xs e =
 pub group_law_forbids : GroupLawForbids
 group_law_forbids = record {
   refuses_possible = λ law.
-      (law.reports_answered.0.in_turn (record { seated = seated_1; not_yet = refl })).refused_unexplained (λ e. absurd cc) (3 ∷ 9 ∷ [])
+      (law.events.0.in_turn (record { seated = seated_1; not_yet = refl })).refused_unexplained (λ e. absurd cc) (3 ∷ 9 ∷ [])
       (record { declared = refl; within = within_of (3 ∷ 9 ∷ []) refl; shows = ((refl, refl), tt) });
   refuses_in_turn = λ law.
-      let judged = law.reports_answered.0.in_turn (record { seated = seated_1; not_yet = refl }) in
+      let judged = law.events.0.in_turn (record { seated = seated_1; not_yet = refl }) in
       absurd (let e = judged.accepted_or_impossible (λ e. absurd cc) in cc);
   accepts_impossible = λ law. none_explains_newest (get_or law.some_lists.0 0 []) (law.some_lists.1.each 1 seated_1);
-  accepts_out_of_turn = λ law. absurd (let e = law.reports_answered.0.out_of_turn (λ turn. both_ways true turn.not_yet refl) in cc);
+  accepts_out_of_turn = λ law. absurd (let e = law.events.0.out_of_turn (λ turn. both_ways true turn.not_yet refl) in cc);
   accepts_unknown_seat = λ law.
-      absurd (let e = law.reports_answered.0.out_of_turn (λ turn. let l : 4 ≤ 3 = turn.seated.1 in omega arith) in cc);
-  other_result = λ law. let e : 9 ≡ 4 = (law.ends.result_is lists explain_at_9).is 0 in omega arith;
-  wrong_count = λ law. let e : 3 ≡ 4 = law.ends.count_is in omega arith;
-  wrong_break_off = λ law. let e : 2 ≡ 1 = law.ends in omega arith;
+      absurd (let e = law.events.0.out_of_turn (λ turn. let l : 4 ≤ 3 = turn.seated.1 in omega arith) in cc);
+  other_result = λ law. let e : 9 ≡ 4 = (law.events.0.2.result_is lists explain_at_9).is 0 in omega arith;
+  wrong_count = λ law. let e : 3 ≡ 4 = law.events.0.2.count_is in omega arith;
+  wrong_break_off = λ law. let e : 2 ≡ 1 = law.events.0 in omega arith;
   same_verdict = λ law.
       let w = law.first_rebuilt lists (explain_at_8 Lower) tt 9 ranked in
       let e : Higher ≡ Lower = first_judged (w.1 1 seated_1).1 in
@@ -154,5 +162,15 @@ group_law_forbids = record {
       let w = law.first_rebuilt lists (explain_at_12 Higher) tt 9 ranked in
       let e : Lower ≡ Higher = first_judged (after_higher (w.1 1 seated_1).1) in
       absurd cc;
-  early_finish = λ law. never_ends_lower (after_higher (law.ends.all_rebuilt lists (explain_at_12 Lower) tt 9 ranked 1 seated_1).1);
+  refuses_finish = λ law. absurd (let e = law.events.0.1.1 in cc);
+  asks_at_finish = λ law. both_ways true law.events.0.0 refl;
+  steps_unreported = λ law. both_ways false refl ((accepted_shows honest_protocol law.events.0).0 3 (omega arith, omega arith));
+  steps_unpaid = λ law. let e : 0 < 0 = (accepted_shows honest_protocol law.events.0).1 in omega arith;
+  refuses_reported = λ law.
+      let some = missing_shows honest_protocol law.events.0 in
+      let Reported : ℕ → Type 0 = λ number. has_reported (λ one other. one == other) number all_reported ≡ true in
+      both_ways _ some.2 (each_seat Reported (refl, refl, refl) some.0 some.1);
+  refuses_paid = λ law. let e : 1 ≡ 0 = (empty_shows honest_protocol law.events.0).1 in omega arith;
+  empty_before_missing = λ law. both_ways false refl ((empty_shows honest_protocol law.events.0).0 3 (omega arith, omega arith));
+  early_finish = λ law. never_ends_lower (after_higher (law.events.0.2.all_rebuilt lists (explain_at_12 Lower) tt 9 ranked 1 seated_1).1);
 }

@@ -1,2 +1,3 @@
+pub mod AskedAnswers
 pub mod PairTraces
 pub mod GroupTraces

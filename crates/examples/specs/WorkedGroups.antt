@@ -12,9 +12,10 @@ use Rattle.referees.specs.declared.verdict.GroupVerdict.TheVariants.{Lower, High
 use Rattle.group.specs.SeatCounts.{below, above, weighed, verdict_knowing}
 use Rattle.group.specs.Exchanges.{group_round, FinishedExchange}
 use Rattle.group.specs.GroupLaws.{standing_after}
+use Rattle.group.specs.GroupProtocol.{left_after, known_after}
 use Rattle.group.specs.Ranges.{target, from_after, to_after}
 use Rattle.group.specs.Searches.{Search}
-use Rattle.group.specs.SeatRules.{Round, round, first_bounds, keeps_rules}
+use Rattle.group.specs.SeatRules.{Round, round, Report, first_bounds, keeps_rules}
 use Rattle.group.specs.declared.counts.Counts.{Counts}
 use Rattle.group.specs.declared.count_bounds.CountBounds.{CountBounds}
 
@@ -59,8 +60,14 @@ pub record GroupSearches : Type 0 where
 abbrev three_rounds : List Round
 three_rounds = round (counts 1 1) Higher ∷ round (counts 2 0) Lower ∷ round (counts 2 0) Lower ∷ []
 
+abbrev pub report : (m : ℕ) → Counts → Report
+report m counts = record { target = m; counts = counts }
+
 -- Both ends of the range are 9 then, and one place is known to be below: two cannot be, though the first three rules pass.
 pub record Rules : Type 0 where
+  -- it follows from the verdicts and the seat's reports, the newest first, as from the rounds
+  pub range_by_verdicts : left_after 0 15 (Lower ∷ Lower ∷ Higher ∷ []) ≡ record { a = 9; b = 9 }
+  pub known_by_reports : known_after 2 (Lower ∷ Lower ∷ Higher ∷ []) (report 10 (counts 2 0) ∷ report 12 (counts 2 0) ∷ report 8 (counts 1 1) ∷ []) ≡ known 2 1 0
   pub standing : standing_after (record { a = 0; b = 15; seat = first_bounds 2 }) three_rounds ≡ record { a = 9; b = 9; seat = known 2 1 0 }
   pub honest : keeps_rules 9 9 (known 2 1 0) (counts 1 0) ≡ true
   pub at_edge : keeps_rules 9 9 (known 2 1 0) (counts 2 0) ≡ false

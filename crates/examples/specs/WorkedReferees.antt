@@ -1,15 +1,12 @@
 -- Worked examples of what referees answer and what it costs.
-use Rattle.std.specs.Prelude.{◌≡◌, ℕ, ◌-◌, ◌^◌, List, [], ◌∷◌, Some, Ok, Err, codes, decimal, Result, nat_lt}
-use Rattle.std.specs.Borrow.{Bor}
+use Rattle.std.specs.Prelude.{◌≡◌, ℕ, ◌-◌, ◌^◌, [], ◌∷◌, Some, Ok, Err, codes, decimal, Result, nat_lt}
 use Rattle.elements.specs.Entries.{lesser_entry}
 use Rattle.elements.specs.declared.entry.Entry.TheVariants.{Below, Element, Above}
 use Rattle.faults.specs.declared.fault.RunFault.{RunFault}
 use Rattle.referees.specs.PlainStock.{FallsByOne, plain_stock}
 use Rattle.referees.specs.declared.plain.Plain.{Plain}
-use Rattle.referees.specs.Quotas.{LowersBoth}
-use Rattle.referees.specs.declared.quota.Quota.{Quota}
-use Rattle.referees.specs.Spares.{SpendsInTurn}
-use Rattle.referees.specs.declared.spare.Spare.{Spare}
+use Rattle.referees.specs.Quotas.{QuotaParts, LowersBoth}
+use Rattle.referees.specs.Spares.{SpareParts, SpendsInTurn}
 use Rattle.referees.specs.Strips.{TakesTwoWords, strip_stock}
 use Rattle.referees.specs.Questions.{OneQuestion, out_of_stock}
 use Rattle.elements.specs.Limits.{saturated}
@@ -22,7 +19,7 @@ use Rattle.referees.specs.declared.verdict.GroupVerdict.TheVariants.{Lower, High
 use Rattle.referees.specs.SecretShares.{shares_of, reconstructed}
 use Rattle.referees.specs.declared.question.Question.TheVariants as Q
 use Rattle.referees.specs.declared.question.Answer.TheVariants as A
-use Rattle.referees.specs.Plays.{line_at}
+use Rattle.referees.specs.Plays.{line_at, SpendsEach}
 use Rattle.referees.specs.PlayPrinting.{line_text}
 use Rattle.referees.specs.Piles.{pile_stock}
 
@@ -46,14 +43,12 @@ pub record Marks : Type 0 where
   pub element_operand : operand_of {E = ℕ} 0 (Element 12) ≡ record { kind = ElementKind; element = 12 }
   pub mark_taken : entry_of {E = ℕ} (record { kind = BelowKind; element = 12 }) ≡ Below
 
-abbrev plain : ℕ → Plain
-plain stock = record { stock = stock }
+-- a plain referee is its number, a strip the list of its unused words
+abbrev quota : ℕ → ℕ → QuotaParts Plain
+quota own below = record { own = own; below = below }
 
-abbrev quota : ℕ → ℕ → Quota Plain
-quota own below = record { own = own; below = plain below }
-
-abbrev spare : ℕ → ℕ → Spare Plain Plain
-spare main other = record { main = plain main; spare = plain other }
+abbrev spare : ℕ → ℕ → SpareParts Plain Plain
+spare first second = record { first = first; second = second }
 
 abbrev answered : Result PairVerdict RunFault
 answered = Ok Before
@@ -63,13 +58,13 @@ refused = Err out_of_stock
 
 -- what a question may come to, and what it may not
 pub record Questions : Type 0 where
-  pub answer : OneQuestion plain_stock (plain 2) (plain 1) Before answered
-  pub refusal : OneQuestion plain_stock (plain 0) (plain 0) Before refused
-  pub not_free : OneQuestion plain_stock (plain 2) (plain 2) Before answered → ⊥
-  pub not_of_two : OneQuestion plain_stock (plain 2) (plain 0) Before answered → ⊥
-  pub not_early : OneQuestion plain_stock (plain 1) (plain 1) Before refused → ⊥
-  pub not_late : OneQuestion plain_stock (plain 0) (plain 0) Before answered → ⊥
-  pub not_untrue : OneQuestion plain_stock (plain 2) (plain 1) NotBefore answered → ⊥
+  pub answer : OneQuestion plain_stock 2 1 Before answered
+  pub refusal : OneQuestion plain_stock 0 0 Before refused
+  pub not_free : OneQuestion plain_stock 2 2 Before answered → ⊥
+  pub not_of_two : OneQuestion plain_stock 2 0 Before answered → ⊥
+  pub not_early : OneQuestion plain_stock 1 1 Before refused → ⊥
+  pub not_late : OneQuestion plain_stock 0 0 Before answered → ⊥
+  pub not_untrue : OneQuestion plain_stock 2 1 NotBefore answered → ⊥
 
 -- which part pays, and which does not
 pub record Payers : Type 0 where
@@ -78,11 +73,14 @@ pub record Payers : Type 0 where
   pub the_first : SpendsInTurn plain_stock FallsByOne plain_stock FallsByOne (spare 1 5) (spare 0 5)
   pub then_the_second : SpendsInTurn plain_stock FallsByOne plain_stock FallsByOne (spare 0 5) (spare 0 4)
   pub not_second_first : SpendsInTurn plain_stock FallsByOne plain_stock FallsByOne (spare 1 5) (spare 1 4) → ⊥
-  pub two_words : (old new : Bor (List ℕ)) → old.now ≡ 7 ∷ 8 ∷ 9 ∷ [] → new.now ≡ 9 ∷ [] → TakesTwoWords (record { words = old }) (record { words = new })
-  pub not_one_word : (old new : Bor (List ℕ)) → old.now ≡ 7 ∷ 8 ∷ 9 ∷ [] → new.now ≡ 8 ∷ 9 ∷ [] → TakesTwoWords (record { words = old }) (record { words = new }) → ⊥
+  -- two questions in turn: one of the first and one of the second, and not two of the second
+  pub turn_by_turn : SpendsEach (SpendsInTurn plain_stock FallsByOne plain_stock FallsByOne) (spare 1 5) 2 (spare 0 4)
+  pub not_second_twice : SpendsEach (SpendsInTurn plain_stock FallsByOne plain_stock FallsByOne) (spare 1 5) 2 (spare 1 3) → ⊥
+  pub two_words : TakesTwoWords (7 ∷ 8 ∷ 9 ∷ []) (9 ∷ [])
+  pub not_one_word : TakesTwoWords (7 ∷ 8 ∷ 9 ∷ []) (8 ∷ 9 ∷ []) → ⊥
   -- a quota over a strip takes the strip's two words, and not one of them
-  pub two_words_below : (old new : Bor (List ℕ)) → old.now ≡ 7 ∷ 8 ∷ 9 ∷ [] → new.now ≡ 9 ∷ [] → LowersBoth strip_stock TakesTwoWords (record { own = 3; below = record { words = old } }) (record { own = 2; below = record { words = new } })
-  pub not_one_word_below : (old new : Bor (List ℕ)) → old.now ≡ 7 ∷ 8 ∷ 9 ∷ [] → new.now ≡ 8 ∷ 9 ∷ [] → LowersBoth strip_stock TakesTwoWords (record { own = 3; below = record { words = old } }) (record { own = 2; below = record { words = new } }) → ⊥
+  pub two_words_below : LowersBoth strip_stock TakesTwoWords (record { own = 3; below = 7 ∷ 8 ∷ 9 ∷ [] }) (record { own = 2; below = 9 ∷ [] })
+  pub not_one_word_below : LowersBoth strip_stock TakesTwoWords (record { own = 3; below = 7 ∷ 8 ∷ 9 ∷ [] }) (record { own = 2; below = 8 ∷ 9 ∷ [] }) → ⊥
 
 pub record SplitNumbers : Type 0 where
   pub of_5_by_7 : shares_of 5 7 ≡ record { word = 7; difference = 2 ^ 64 - 2 }

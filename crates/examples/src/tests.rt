@@ -10,9 +10,10 @@ use referees::pile::{PileNumbers, play_on_loan};
 use referees::plain::Plain;
 use referees::play::Line;
 use referees::question::Question;
-use referees::referee::Referee;
+use referees::referee::Stocked;
 use referees::shares::Shares;
 use referees::spare::Spare;
+use referees::strip::Strip;
 use sheets::sheet_summary::check_sheet;
 use std::alloc::{AllocError, Global};
 use std::test::Fail;
@@ -48,12 +49,12 @@ fn marks_stand_outside_every_element(rt: HostRuntime) {
 #[test]
 fn a_fault_keeps_its_line(rt: HostRuntime) -> Result<(), Fail> {
     let sheet = SheetFault {
-        refusal: Refusal::OutOfOrder(3),
+        refusal: Refusal::OutOfOrder(4_294_967_297),
         seat: Some(Seat::B),
     };
     let run = RunFault::OfSeat(SeatFault::OfSheet(sheet));
     let line = run.to_string(rt.alloc())?;
-    assert_eq!(rt; line.as_str(), "refused 6 sheet B 3");
+    assert_eq!(rt; line.as_str(), "refused 6 sheet B 4294967297");
     Ok(())
 }
 
@@ -107,7 +108,7 @@ fn a_lent_referee_is_spent_as_a_spare(rt: HostRuntime) {
     };
     let question = Question::First(Entry::Element(Delay { micros: 12 }), Entry::Above);
     let mut lines = [question; 4].map(Line::new);
-    let tally = play_on_loan(numbers, &[7, u64::MAX, 12], &mut lines);
+    let tally = play_on_loan(numbers, Strip::new(&mut [7, u64::MAX, 12]), &mut lines);
     assert_eq!(rt; tally.answered, 3);
     assert_eq!(rt; tally.left, 0);
     assert_eq!(rt; lines[0].left, 2);
@@ -118,7 +119,7 @@ fn a_lent_referee_is_spent_as_a_spare(rt: HostRuntime) {
 #[test]
 fn more_than_32_bits_are_told_as_the_greatest_number(rt: HostRuntime) {
     let most = Plain::new(0x1_0000_0007);
-    assert_eq!(rt; Referee::<Delay>::left(&most), u32::MAX);
+    assert_eq!(rt; most.left(), u32::MAX);
     let spared = Spare::new(most, Plain::new(1));
-    assert_eq!(rt; Referee::<Delay>::left(&spared), u32::MAX);
+    assert_eq!(rt; spared.left(), u32::MAX);
 }

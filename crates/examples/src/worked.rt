@@ -2,7 +2,7 @@ ghost use Rattle.examples.specs.WorkedDefinitions.{Layouts, Kinds, Places, Ranks
 ghost use Rattle.examples.specs.WorkedReferees.{SplitNumbers, Marks, Payers, Plays, Questions, Stocks, Verdicts};
 ghost use Rattle.examples.specs.WorkedPairs.{Bisections, Bounding, PairExchanges, Rebuilt, Rows, Tests, WithoutBelows};
 ghost use Rattle.examples.specs.WorkedGroups.{Countings, GroupExchanges, GroupSearches, Tables, Rules, Targets};
-ghost use Rattle.examples.specs.Cases.{EveryCaseHolds};
+ghost use Rattle.examples.specs.Cases.{CallsLeadThere, EveryCaseHolds};
 
 /// The definitions that contracts cite give what a reader works out by hand; the call itself does nothing.
 pub fn definitions_work()
@@ -48,5 +48,6 @@ pub fn group_works()
 
 /// The table of worked cases, tried by one computation.
 pub fn every_case_holds()
-    ensures { EveryCaseHolds }
+    ensures table { EveryCaseHolds }
+    ensures runs { CallsLeadThere }
 {}

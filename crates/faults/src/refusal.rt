@@ -17,7 +17,7 @@ pub enum Refusal {
     /// A sheet's body is no whole number of elements, or has over 65,536 of them.
     BodyNotAList,
     /// The element at the spot is before its predecessor.
-    OutOfOrder(u32),
+    OutOfOrder(u64),
     /// The element slice is shorter than the list.
     SliceTooShort,
     /// A group has under 2 or over 16 seats.
@@ -29,7 +29,7 @@ pub enum Refusal {
     /// A rank is 0 or above the number of elements, or its percentile is not 1 to 99.
     RankOutOfBounds,
     /// The element at the spot is the first outside the range of places.
-    OutsideRange(u32),
+    OutsideRange(u64),
     /// The seat does not exist, or has reported this round.
     NotItsTurn,
     /// No list of the declared length explains the report together with the earlier ones.
@@ -66,7 +66,7 @@ impl Refusal {
     }
 
     /// The number of the element that the refusal is about, where it is about one.
-    pub fn spot(self) -> Option<u32>
+    pub fn spot(self) -> Option<u64>
         ensures { result ≡ spot_of self }
     {
         match self {

@@ -35,7 +35,7 @@ module _ {T : Type 0} {g : Group T} (trace : GroupTrace T) where
     StandsWith other seat is_this =
         let accepted = reports_in g trace other in
         let newest : Report = record { target = target_after g.lo g.hi (verdicts trace); counts = counts } in
-        SeatStands g.lo g.hi (length_of g other) old.a old.b seat
+        SeatStands g.lo g.hi (length_of g other) (verdicts trace) old.a old.b seat
         (cond is_this (newest ∷ accepted) accepted) (cond is_this true (has_reported (protocol g).same other trace))
 
     module _ (value : SeatValue) (is : seat_number old.seats number ≡ Some value) (none : value.given ≡ None)
@@ -43,7 +43,7 @@ module _ {T : Type 0} {g : Group T} (trace : GroupTrace T) where
       -- so does the state of the seat that reports, with its report
       this_seat : StandsWith number (with_counts counts value) true
       this_seat =
-          subst (λ (m : ℕ). SeatStands g.lo g.hi (length_of g number) old.a old.b (with_counts counts value)
+          subst (λ (m : ℕ). SeatStands g.lo g.hi (length_of g number) (verdicts trace) old.a old.b (with_counts counts value)
           (record { target = m; counts = counts } ∷ reports_in g trace number) true) (sym (target_asked after))
           (seat_reported (after.seats number value is) counts none p)
 

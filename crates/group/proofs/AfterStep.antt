@@ -120,19 +120,19 @@ module _ {T : Type 0} {g : Group T} {old : State} (trace : GroupTrace T)
 
       -- the state of each seat after the verdict stands to the same reports
       seats_next : (number : ℕ) (value : SeatValue) → seat_number (map (seat_after verdict) old.seats) number ≡ Some value →
-          SeatStands g.lo g.hi (length_of g number) (from_after verdict old.a old.b) (to_after verdict old.a old.b) value
+          SeatStands g.lo g.hi (length_of g number) (verdict ∷ verdicts trace) (from_after verdict old.a old.b) (to_after verdict old.a old.b) value
           (reports_in g trace number) false
       seats_next number value is =
           let was = seat_of_map (seat_after verdict) old.seats number value is in
           let gave = gave_at (number - 1) was.0 (seat_read old.seats number was.0 was.1) in
           subst (λ (seat : SeatValue).
-          SeatStands g.lo g.hi (length_of g number) (from_after verdict old.a old.b) (to_after verdict old.a old.b) seat
+          SeatStands g.lo g.hi (length_of g number) (verdict ∷ verdicts trace) (from_after verdict old.a old.b) (to_after verdict old.a old.b) seat
           (reports_in g trace number) false) was.2
           (seat_stands_after (after.seats number was.0 was.1) gave.counts verdict gave.given on after.in_range.order narrowed.0)
 
       -- the next round stands to the trace with the verdict
-      after_next : g.hi < 2 ^ 64 → After g (next_round verdict old) (stepped (Ok verdict) ∷ trace)
-      after_next small = record {
+      after_next : (stock : ℕ) → g.hi < 2 ^ 64 → After g (next_round verdict old) (stepped stock (Ok verdict) ∷ trace)
+      after_next stock small = record {
         rank_is = after.rank_is;
         total_is = after.total_is;
         from_lo = after.from_lo;
@@ -148,7 +148,7 @@ module _ {T : Type 0} {g : Group T} {old : State} (trace : GroupTrace T)
       }
 
       -- so does the round that the verdict leaves
-      pub after_verdict : g.hi < 2 ^ 64 → After g (moved_state verdict old) (stepped (Ok verdict) ∷ trace)
-      after_verdict small =
-          subst (λ (now : State). After g now (stepped (Ok verdict) ∷ trace))
-          (sym (moves_to_next verdict old after.in_range.order narrowed.0)) (after_next small)
+      pub after_verdict : (stock : ℕ) → g.hi < 2 ^ 64 → After g (moved_state verdict old) (stepped stock (Ok verdict) ∷ trace)
+      after_verdict stock small =
+          subst (λ (now : State). After g now (stepped stock (Ok verdict) ∷ trace))
+          (sym (moves_to_next verdict old after.in_range.order narrowed.0)) (after_next stock small)

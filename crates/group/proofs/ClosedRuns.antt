@@ -12,7 +12,7 @@ use Rattle.group.specs.Searches.{Search}
 use Rattle.group.specs.SeatRules.{Report}
 use Rattle.group.specs.GroupCalls.{State, moved_state}
 use Rattle.group.specs.Histories.{GroupTrace}
-use Rattle.group.specs.GroupProtocol.{left_after}
+use Rattle.group.specs.GroupProtocol.{Left, left_after, target_after}
 use Rattle.group.proofs.ReportAnswers.{WeighsAll}
 use Rattle.group.proofs.TraceLists.{explained_finds}
 use Rattle.group.proofs.Openings.{Group}
@@ -29,7 +29,9 @@ module _ {T : Type 0} (g : Group T) where
     pub stood : Stands g past older accepted has
     pub made_so : made ≡ Done ∷ older
     pub done : (lists : List (List T)) → Explained g accepted lists → weighed g.place g.k lists (target past.a past.b) ≡ Done
-    pub target_is : target now.a now.b ≡ target past.a past.b
+    pub from_lo : now.lo ≡ g.lo
+    pub to_hi : now.hi ≡ g.hi
+    pub left_is : left_after g.lo g.hi made ≡ record { a = now.a; b = now.b }
     pub made_is : now.made ≡ length made
 
   -- a round is closed after a trace
@@ -38,9 +40,9 @@ module _ {T : Type 0} (g : Group T) where
 
 module _ {T : Type 0} {g : Group T} where
   -- done closes a round that stands to a trace
-  pub after_done : {old : State} (trace : GroupTrace T) → After g old trace → WeighsAll old Done → g.hi < 2 ^ 64 →
-      ClosedAfter g (moved_state Done old) (stepped (Ok Done) ∷ trace)
-  after_done {old = old} trace after w small =
+  pub after_done : {old : State} (trace : GroupTrace T) → After g old trace → WeighsAll old Done → (stock : ℕ) → g.hi < 2 ^ 64 →
+      ClosedAfter g (moved_state Done old) (stepped stock (Ok Done) ∷ trace)
+  after_done {old = old} trace after w stock small =
       let stay = ends_stay Done old.a old.b after.in_range.order tt in
       record {
         past = old;
@@ -49,9 +51,17 @@ module _ {T : Type 0} {g : Group T} where
         stood = after;
         made_so = refl;
         done = verdict_of_lists trace after w;
-        target_is = ap₂ target stay.0 stay.1;
+        from_lo = after.from_lo;
+        to_hi = after.to_hi;
+        left_is = after.left_is ∙ ap₂ {C = Left} (λ (a b : ℕ). record { a = a; b = b }) (sym stay.0) (sym stay.1);
         made_is = one_more_counted trace after small;
       }
+
+  -- done leaves the range as it was, and so the target
+  pub closed_target : {now : State} {made : List GroupVerdict} {accepted : ℕ → List Report} (closed : Closed g now made accepted) →
+      target_after g.lo g.hi closed.older ≡ target now.a now.b
+  closed_target closed =
+      ap (target_after g.lo g.hi) (sym closed.made_so) ∙ ap (λ (left : Left). target left.a left.b) closed.left_is
 
   module _ (o : IsOrder g.before) (agrees : PlacesAgree g.before g.place) {accepted : ℕ → List Report} {lists : List (List T)}
       (e : Explained g accepted lists) (x : T) (r : Ranked g.before g.k (joint lists) x) where
@@ -77,4 +87,4 @@ module _ {T : Type 0} {g : Group T} where
         let all : reverse closed.older ++ begins.0 ≡ reverse made
         = ap (λ (rest : List GroupVerdict). reverse closed.older ++ rest) last.0
         ∙ sym (reverse_aux-eq closed.older (Done ∷ [])) ∙ ap reverse (sym closed.made_so) in
-        (subst (λ (vs : List GroupVerdict). Search judge g.lo g.hi vs (g.place x)) all begins.1, last.1 ∙ target_asked closed.stood ∙ sym closed.target_is)
+        (subst (λ (vs : List GroupVerdict). Search judge g.lo g.hi vs (g.place x)) all begins.1, last.1 ∙ closed_target closed)

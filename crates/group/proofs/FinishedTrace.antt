@@ -3,6 +3,7 @@ use Rattle.std.proofs.Common.{◌≡◌, ℕ, ◌+◌, ◌-◌, ◌≤◌, List,
 use Rattle.std.proofs.lemmas.List.{length-reverse}
 use Rattle.elements.specs.Orders.{IsOrder, PlacesAgree, AtPlace, OneElementEach}
 use Rattle.elements.specs.Ranks.{joint, Ranked}
+use Rattle.runs.specs.Finishes.{Outcome}
 use Rattle.runs.specs.HistoryLaw.{ExplainAll, Rebuilt, FinishLaw}
 use Rattle.runs.specs.Traces.{verdicts}
 use Rattle.referees.specs.declared.verdict.GroupVerdict.{GroupVerdict}
@@ -56,12 +57,12 @@ module _ {T : Type 0} {g : Group T} (o : IsOrder g.before) (agrees : PlacesAgree
         ((explained_finds some.1 o w.0 w.1 agrees).few (reverse (verdicts trace)) (g.place w.0) (is_weighing o agrees some.1 w.0 w.1 closed).0)
 
     -- so the finish is lawful
-    pub finish_lawful : (sample result : T) (count : ℕ) → IsElementAt g.place g.lowest g.highest sample (target now.a now.b) result → count ≡ now.made →
-        FinishLaw (protocol g) result count trace
-    finish_lawful sample result count ending made =
+    pub finish_lawful : (sample : T) (outcome : Outcome T) → IsElementAt g.place g.lowest g.highest sample (target now.a now.b) outcome.result →
+        outcome.count ≡ now.made → FinishLaw (protocol g) outcome trace
+    finish_lawful sample outcome ending made =
         let all = made ∙ closed.made_is in
         record {
-          result_is = result_has_rank sample result ending;
+          result_is = result_has_rank sample outcome.result ending;
           count_is = all;
           count_fits = subst (AtMostLogPlusOne (g.hi - g.lo + 1)) (sym all) few_verdicts;
           all_made = λ lists all.

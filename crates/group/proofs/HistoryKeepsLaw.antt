@@ -1,14 +1,15 @@
 -- Every history of the run of a group keeps the law.
-use Rattle.std.proofs.Common.{◌≡◌, ℕ, Bool, List, [], ◌++◌, reverse, Ok, Err, Result, sym, ◌∙◌, subst}
+use Rattle.std.proofs.Common.{◌≡◌, ℕ, Bool, List, [], ◌++◌, reverse, Ok, Err, Result, sym, refl, ◌∙◌, subst}
 use Rattle.std.proofs.lemmas.List.{append-nil}
 use Rattle.elements.specs.Orders.{IsOrder, PlacesAgree, OneElementEach, PlaceLaw}
 use Rattle.faults.specs.declared.fault.RunFault.{RunFault}
 use Rattle.elements.specs.Ranks.{joint, Ranked}
 use Rattle.referees.specs.declared.verdict.GroupVerdict.{GroupVerdict}
-use Rattle.runs.specs.HistoryLaw.{ExplainAll, Rebuilt, Answered, FinishLaw, HistoryLaw}
-use Rattle.runs.specs.Traces.{verdicts, EachReport, Ends}
+use Rattle.runs.specs.HistoryLaw.{ExplainAll, Rebuilt, Lawful, HistoryLaw}
+use Rattle.runs.proofs.Learning.{OneRebuild, tells_the_same}
+use Rattle.runs.specs.Traces.{verdicts, EachEvent}
 use Rattle.runs.specs.declared.slip.Slip.{Slip}
-use Rattle.group.specs.SeatCounts.{weighed}
+use Rattle.group.specs.SeatCounts.{weighed, verdict_knowing}
 use Rattle.group.specs.Searches.{Search as Weighing}
 use Rattle.group.specs.GroupCalls.{Opens, state_of, opened_state}
 use Rattle.group.specs.Histories.{GroupTrace, Now, going, over, History, opened, report, step, finish, break_off}
@@ -17,24 +18,22 @@ use Rattle.group.specs.declared.run.OfGroup.{OfGroup}
 use Rattle.group.specs.declared.run.Run.{Run}
 use Rattle.group.specs.declared.run.StagedRun.{StagedRun}
 use Rattle.group.specs.declared.run.StagedRun.TheVariants.{Comparing as StillComparing, Closing as NowClosing}
-use Rattle.group.specs.GroupHistoryLaw.{AsksNow, HistoriesKeepLaw}
+use Rattle.group.specs.GroupHistoryLaw.{ShowsNow, HistoriesKeepLaw, HistoriesTellTheSame}
 use Rattle.group.proofs.ClosedRuns.{begins_weighing, is_weighing}
 use Rattle.group.proofs.TraceLists.{one_of_rank, some_lists_explain}
 use Rattle.group.proofs.FinishedTrace.{rebuilds_weighing, finish_lawful}
-use Rattle.group.proofs.Histories.{AtStage, StandsAt, made_counted, stands_at}
+use Rattle.group.proofs.Histories.{AtStage, StandsAt, made_counted, shows_range, stands_at}
 use Rattle.group.proofs.ReportLaw.{own_list_explains, report_answered}
 use Rattle.group.proofs.Openings.{Group, Allowed, opening_allowed}
-use Rattle.group.proofs.RunStands.{protocol, explains_accepted, accepted_explained, target_asked}
+use Rattle.group.proofs.RunStands.{protocol, explains_accepted, accepted_explained}
+use Rattle.group.proofs.SearchFinds.{one_search}
+use Rattle.group.proofs.StepLaw.{step_answered}
 
 module _ {T : Type 0} {g : Group T} (o : IsOrder g.before) (agrees : PlacesAgree g.before g.place) (each : OneElementEach g.place g.lowest g.highest)
     (allowed : Allowed g) where
-  -- each report of a trace is answered as the law says
-  abbrev EachAnswered : GroupTrace T → Type 0
-  EachAnswered trace = EachReport (Answered (protocol g)) trace
-
-  -- a trace ends as the law says
-  abbrev EndsWell : GroupTrace T → Type 0
-  EndsWell trace = Ends (FinishLaw (protocol g)) trace
+  -- each event of a trace is as the law says
+  abbrev AllLawful : GroupTrace T → Type 0
+  AllLawful trace = EachEvent (Lawful (protocol g)) trace
 
   -- some lists explain the reports of the trace of a run
   some_lists : (stage : StagedRun T) (trace : GroupTrace T) → AtStage g stage trace →
@@ -74,28 +73,22 @@ module _ {T : Type 0} {g : Group T} (o : IsOrder g.before) (agrees : PlacesAgree
       let made = first_weighed stage trace at lists all x r in
       (made.0, rebuilds_weighing {g = g} o agrees trace lists (explains_accepted trace lists all) x r (reverse (verdicts trace) ++ made.0) made.1)
 
-  -- the trace of a run keeps the law, once its reports are answered and it ends as the law says
-  law_of_run : (stage : StagedRun T) (trace : GroupTrace T) → AtStage g stage trace → EachAnswered trace → EndsWell trace →
-      HistoryLaw (protocol g) trace
-  law_of_run stage trace at answered ends = record {
+  -- the trace of a run keeps the law, once its events are as the law says
+  law_of_run : (stage : StagedRun T) (trace : GroupTrace T) → AtStage g stage trace → AllLawful trace → HistoryLaw (protocol g) trace
+  law_of_run stage trace at lawful = record {
     some_lists = some_lists stage trace at;
     own_list = λ number seated xs h. own_list_explains g number xs trace h;
     one_result = λ lists all. one_of_rank (explains_accepted trace lists all) o allowed;
     first_made = first_made stage trace at;
     first_rebuilt = λ lists all rebuildable. first_rebuilt stage trace at lists all;
-    reports_answered = answered;
-    ends = ends;
+    events = lawful;
   }
 
-  -- so it does wherever a history stands, and there a run that compares asks for what the law says
-  law_where_it_stands : (now : Now T) (trace : GroupTrace T) → StandsAt g now trace → EachAnswered trace → EndsWell trace →
-      HistoryLaw (protocol g) trace × AsksNow g.lo g.hi now trace
-  law_where_it_stands (going (StillComparing run)) trace after answered ends = (
-    law_of_run (StillComparing run) trace after answered ends,
-    record { from_lo = after.from_lo; to_hi = after.to_hi; target_is = sym (target_asked after) },
-  )
-  law_where_it_stands (going (NowClosing run)) trace closed answered ends = (law_of_run (NowClosing run) trace closed answered ends, tt)
-  law_where_it_stands over trace at answered ends = (law_of_run at.0 trace at.1 answered ends, tt)
+  -- so it does wherever a history stands, and there a run shows what the law says
+  law_where_it_stands : (now : Now T) (trace : GroupTrace T) → StandsAt g now trace → AllLawful trace →
+      HistoryLaw (protocol g) trace × ShowsNow g.lo g.hi now trace
+  law_where_it_stands (going stage) trace at lawful = (law_of_run stage trace at lawful, shows_range g stage trace at)
+  law_where_it_stands over trace at lawful = (law_of_run at.0 trace at.1 lawful, tt)
 
   module _ (sample : T) (start : Run T Comparing) (new : state_of start.progress ≡ opened_state g.declared g.lo g.hi g.k) where
     -- where a history stands, its run stands to its trace
@@ -103,36 +96,46 @@ module _ {T : Type 0} {g : Group T} (o : IsOrder g.before) (agrees : PlacesAgree
         StandsAt g now trace
     stands h = stands_at allowed sample start new h
 
-    -- each report of a history is answered as the law says
-    reports_answered : {trace : GroupTrace T} {now : Now T} → History g.place g.lowest g.highest sample start trace now → EachAnswered trace
-    reports_answered opened = tt
-    reports_answered (report {past = past} number counts answer h r) =
-        (report_answered each allowed past (stands h) number counts answer r.0, reports_answered h)
-    reports_answered (step stock result h s) = reports_answered h
-    reports_answered (finish ending h f) = reports_answered h
-    reports_answered (break_off count h b) = reports_answered h
-
-    -- and the history ends as the law says
-    ends_well : {trace : GroupTrace T} {now : Now T} → History g.place g.lowest g.highest sample start trace now → EndsWell trace
-    ends_well opened = tt
-    ends_well (report number counts answer h r) = tt
-    ends_well (step stock result h s) = tt
-    ends_well (finish {past = past} ending h f) =
-        finish_lawful o agrees past each allowed (stands h) sample ending.result ending.count f.element f.count
-    ends_well (break_off {past = past} {stage = stage} count h b) = b ∙ made_counted g stage past (stands h)
+    -- each event of a history is as the law says
+    events_lawful : {trace : GroupTrace T} {now : Now T} → History g.place g.lowest g.highest sample start trace now → AllLawful trace
+    events_lawful opened = tt
+    events_lawful (report {past = past} number counts answer h r) =
+        (report_answered each allowed past (stands h) number counts answer r.0, events_lawful h)
+    events_lawful (step {past = past} {run = run} stock result h s) = (step_answered past run (stands h) stock result s, events_lawful h)
+    events_lawful (finish {past = past} ending h f) =
+        ((refl, (ending, refl), finish_lawful o agrees past each allowed (stands h) sample ending f.element f.count), events_lawful h)
+    events_lawful (break_off {past = past} {stage = stage} count h b) = (b ∙ made_counted g stage past (stands h), events_lawful h)
 
     -- so it keeps the law
     history_keeps_law : (trace : GroupTrace T) (now : Now T) → History g.place g.lowest g.highest sample start trace now →
-        HistoryLaw (protocol g) trace × AsksNow g.lo g.hi now trace
-    history_keeps_law trace now h = law_where_it_stands now trace (stands h) (reports_answered h) (ends_well h)
+        HistoryLaw (protocol g) trace × ShowsNow g.lo g.hi now trace
+    history_keeps_law trace now h = law_where_it_stands now trace (stands h) (events_lawful h)
 
--- every history of the run of a group keeps the law
-pub histories_keep_law : {T : Type 0} {before : T → T → Bool} (sample : T) (place : T → ℕ) (lowest highest : ℕ) → IsOrder before →
-    PlaceLaw before place lowest highest → (declared : List ℕ) (lo hi rank : ℕ)
-    (result : Result (Run T Comparing × Slip OfGroup) RunFault) → Opens lowest highest declared lo hi rank result →
-    HistoriesKeepLaw before sample place lowest highest declared lo hi rank result
-histories_keep_law sample place lowest highest order places declared lo hi rank (Err fault) opens = tt
-histories_keep_law {before = before} sample place lowest highest order places declared lo hi rank (Ok run) opens =
-    let g : Group _
-    = record { before = before; place = place; lowest = lowest; highest = highest; declared = declared; lo = lo; hi = hi; k = rank } in
-    history_keeps_law {g = g} order places.agrees places.complete (opening_allowed g places.fits opens.0) sample run.0 opens.1
+module _ {T : Type 0} (before : T → T → Bool) (sample : T) (place : T → ℕ) (lowest highest : ℕ) (order : IsOrder before)
+    (places : PlaceLaw before place lowest highest) (declared : List ℕ) (lo hi rank : ℕ) where
+  -- the group as it is opened
+  abbrev group : Group T
+  group = record { before = before; place = place; lowest = lowest; highest = highest; declared = declared; lo = lo; hi = hi; k = rank }
+
+  -- every history of a run just opened keeps the law
+  law_from_opening : (run : Run T Comparing × Slip OfGroup T) → Opens lowest highest declared lo hi rank (Ok run) →
+      HistoriesKeepLaw before sample place lowest highest declared lo hi rank (Ok run)
+  law_from_opening run opens = history_keeps_law {g = group} order places.agrees places.complete (opening_allowed group places.fits opens.0) sample run.0 opens.1
+
+  -- so every history of the run of a group does
+  pub histories_keep_law : (result : Result (Run T Comparing × Slip OfGroup T) RunFault) → Opens lowest highest declared lo hi rank result →
+      HistoriesKeepLaw before sample place lowest highest declared lo hi rank result
+  histories_keep_law (Err fault) opens = tt
+  histories_keep_law (Ok run) opens = law_from_opening run opens
+
+  -- from the result's place a seat rebuilds one list of verdicts
+  one_rebuild : OneRebuild (protocol group)
+  one_rebuild number xs x vs ws one other = (one_search (verdict_knowing (place x)) one.1 other.1).0
+
+  -- so histories of runs opened alike tell a seat the same
+  pub histories_tell_the_same : (result : Result (Run T Comparing × Slip OfGroup T) RunFault) → Opens lowest highest declared lo hi rank result →
+      HistoriesTellTheSame before sample place lowest highest declared lo hi rank result
+  histories_tell_the_same (Err fault) opens = tt
+  histories_tell_the_same (Ok run) opens = λ other opens_too trace other_trace now other_now h other_h.
+      tells_the_same (protocol group) one_rebuild trace other_trace (law_from_opening run opens trace now h).0
+      (law_from_opening other opens_too other_trace other_now other_h).0

@@ -28,6 +28,7 @@ pub mod RoundSums
 pub mod AfterStep
 pub mod ClosedRuns
 pub mod ReportLaw
+pub mod StepLaw
 pub mod FinishedTrace
 pub mod Histories
 pub mod HistoryKeepsLaw

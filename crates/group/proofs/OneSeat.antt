@@ -10,7 +10,8 @@ use Rattle.group.specs.SeatValues.{SeatValue, new_seat, with_counts, seat_after}
 use Rattle.group.specs.SeatCounts.{HasCounts}
 use Rattle.group.specs.GroupLaws.{NoneDone, Standing, standing_after}
 use Rattle.group.specs.Ranges.{target, from_after, to_after, LeavesPlace}
-use Rattle.group.specs.SeatRules.{first_bounds, Possible, Round, round, EachPossible, NeverEmpty, Report, reports, Explains}
+use Rattle.group.specs.GroupProtocol.{known_after}
+use Rattle.group.specs.SeatRules.{first_bounds, bounds_after, Possible, Round, round, EachPossible, NeverEmpty, Report, reports, Explains}
 use Rattle.group.specs.declared.counts.Counts.{Counts}
 use Rattle.group.specs.declared.count_bounds.CountBounds.{CountBounds}
 use Rattle.group.proofs.Explained.{explained_if_possible}
@@ -33,18 +34,20 @@ module _ (lo hi d : ℕ) where
   at_first = record { a = lo; b = hi; seat = first_bounds d }
 
   -- the state of a seat follows from rounds, none of them done, in each of which its counts were possible; its reports are
-  -- those of these rounds, and what it has given in this round
-  pub record SeatStands (a b : ℕ) (value : SeatValue) (accepted : List Report) (has : Bool) : Type 0 where
+  -- those of these rounds, and what it has given in this round; and what is known of it is what the verdicts made and the
+  -- reports of these rounds say
+  pub record SeatStands (made : List GroupVerdict) (a b : ℕ) (value : SeatValue) (accepted : List Report) (has : Bool) : Type 0 where
     pub rounds : List Round
     pub never_empty : NeverEmpty lo hi rounds
     pub none_done : NoneDone rounds
     pub possible : EachPossible lo hi (first_bounds d) rounds
     pub leads_here : standing_after at_first rounds ≡ record { a = a; b = b; seat = value.known }
+    pub known_is : value.known ≡ known_after d made (reverse (reports lo hi rounds))
     pub given : Given a b value.known (reverse (reports lo hi rounds)) accepted has value.given
 
   -- the state of a seat before any round stands to no reports
-  pub seat_opened : lo ≤ hi → SeatStands lo hi (new_seat d) [] false
-  seat_opened order = record { rounds = []; never_empty = order; none_done = tt; possible = tt; leads_here = refl; given = (refl, refl) }
+  pub seat_opened : lo ≤ hi → SeatStands [] lo hi (new_seat d) [] false
+  seat_opened order = record { rounds = []; never_empty = order; none_done = tt; possible = tt; leads_here = refl; known_is = refl; given = (refl, refl) }
 
 -- a round with a verdict that leaves places in the range is not done, and leaves a range that is not empty
 one_round : (a b : ℕ) (counts : Counts) (verdict : GroupVerdict) → GoesOn verdict → a ≤ b → LeavesPlace verdict a b →
@@ -60,20 +63,26 @@ explained_reversed place lo hi d xs {in_order} is x =
     let Shown : Report → Type 0 = λ r. HasCounts r.target (map place xs) r.counts in
     record { declared = x.declared; within = x.within; shows = subst (Each Shown) (sym is) (each-reverse Shown in_order x.shows) }
 
-module _ {lo hi d a b : ℕ} {value : SeatValue} {accepted : List Report} {has : Bool} (stands : SeatStands lo hi d a b value accepted has) where
+module _ {lo hi d a b : ℕ} {made : List GroupVerdict} {value : SeatValue} {accepted : List Report} {has : Bool}
+    (stands : SeatStands lo hi d made a b value accepted has) where
   -- what the seat has given, where this is
   pub given_is : (given : Option Counts) → value.given ≡ given → Given a b value.known (reverse (reports lo hi stands.rounds)) accepted has given
   given_is given is = subst (Given a b value.known (reverse (reports lo hi stands.rounds)) accepted has) is stands.given
 
+  -- what is known of a seat that has given nothing is what the verdicts and its reports say
+  pub known_by_reports : value.given ≡ None → value.known ≡ known_after d made accepted
+  known_by_reports none = stands.known_is ∙ ap (known_after d made) (sym (given_is None none).0)
+
   -- the state of a seat that had given nothing, with possible counts that it reports, stands to its reports and this one
   pub seat_reported : (counts : Counts) → value.given ≡ None → Possible a b value.known counts →
-      SeatStands lo hi d a b (with_counts counts value) (at_target a b counts ∷ accepted) true
+      SeatStands lo hi d made a b (with_counts counts value) (at_target a b counts ∷ accepted) true
   seat_reported counts none p = record {
     rounds = stands.rounds;
     never_empty = stands.never_empty;
     none_done = stands.none_done;
     possible = stands.possible;
     leads_here = stands.leads_here;
+    known_is = stands.known_is;
     given = (ap (λ (in_order : List Report). at_target a b counts ∷ in_order) (given_is None none).0, refl, p);
   }
 
@@ -89,7 +98,7 @@ module _ {lo hi d a b : ℕ} {value : SeatValue} {accepted : List Report} {has :
 
   -- after a verdict that leaves places in the range, the counts that the seat gave have made one round more
   pub seat_stands_after : (counts : Counts) (verdict : GroupVerdict) → value.given ≡ Some counts → GoesOn verdict → a ≤ b → LeavesPlace verdict a b →
-      SeatStands lo hi d (from_after verdict a b) (to_after verdict a b) (seat_after verdict value) accepted false
+      SeatStands lo hi d (verdict ∷ made) (from_after verdict a b) (to_after verdict a b) (seat_after verdict value) accepted false
   seat_stands_after counts verdict given on order leaves =
       let first = at_first lo hi d in
       let more = round counts verdict ∷ [] in
@@ -110,6 +119,10 @@ module _ {lo hi d a b : ℕ} {value : SeatValue} {accepted : List Report} {has :
             standing_more more first stands.rounds
             ∙ ap (λ (at : Standing). standing_after at more) stands.leads_here
             ∙ ap Next (sym given);
+        known_is =
+            ap (bounds_next verdict value.known) given
+            ∙ ap (λ (known : CountBounds). bounds_after verdict known counts) stands.known_is
+            ∙ ap (known_after d (verdict ∷ made)) (sym (reported_more counts verdict));
         given = (gave.0 ∙ sym (reported_more counts verdict), refl);
       }
 

@@ -56,7 +56,7 @@ module _ {T : Type 0} (g : Group T) where
     pub halved : (now.b - now.a + 1) * 2 ^ length made ≤ g.hi - g.lo + 1
     pub one_a_seat : length now.seats ≡ length g.declared
     pub seats : (number : ℕ) (value : SeatValue) → seat_number now.seats number ≡ Some value →
-        SeatStands g.lo g.hi (length_of number) now.a now.b value (accepted number) (has number)
+        SeatStands g.lo g.hi (length_of number) made now.a now.b value (accepted number) (has number)
     pub by_judge : (lists : List (List T)) → Explained accepted lists → ByJudge (weighed g.place g.k lists) g.lo g.hi made
 
   -- the accepted reports of a seat in a trace
@@ -69,13 +69,13 @@ module _ {T : Type 0} (g : Group T) where
 
   -- each seat of a round just opened stands to no reports
   opened_seats : g.lo ≤ g.hi → (number : ℕ) (value : SeatValue) → seat_number (map new_seat g.declared) number ≡ Some value →
-      SeatStands g.lo g.hi (length_of number) g.lo g.hi value [] false
+      SeatStands g.lo g.hi (length_of number) [] g.lo g.hi value [] false
   opened_seats order zero value is = absurd (none-some value is)
   opened_seats order (suc i) value is =
       let w = read_of_map new_seat g.declared i value is in
       let d : length_of (suc i) ≡ w.0 = read_by_number g.declared i w.0 0 w.1 in
-      subst (λ (seat : SeatValue). SeatStands g.lo g.hi (length_of (suc i)) g.lo g.hi seat [] false) w.2
-      (subst (λ (n : ℕ). SeatStands g.lo g.hi n g.lo g.hi (new_seat w.0) [] false) (sym d) (seat_opened g.lo g.hi w.0 order))
+      subst (λ (seat : SeatValue). SeatStands g.lo g.hi (length_of (suc i)) [] g.lo g.hi seat [] false) w.2
+      (subst (λ (n : ℕ). SeatStands g.lo g.hi n [] g.lo g.hi (new_seat w.0) [] false) (sym d) (seat_opened g.lo g.hi w.0 order))
 
   -- a round just opened stands to the empty trace
   pub after_opening : Allowed g → After (opened_state g.declared g.lo g.hi g.k) []

@@ -68,17 +68,17 @@ same_run f g h (done {a = a} {b = b} l e) = done l (sym (h (target a b)) ∙ e)
 same_run f g h (lower {a = a} {b = b} l e r) = lower l (sym (h (target a b)) ∙ e) (same_run f g h r)
 same_run f g h (higher {a = a} {b = b} l e r) = higher l (sym (h (target a b)) ∙ e) (same_run f g h r)
 
--- a judge's runs from one range have the same verdicts, and end at the same place
-one_run : (f : ℕ → GroupVerdict) {a b m n : ℕ} {us vs : List GroupVerdict} → Search f a b us m → Search f a b vs n → (us ≡ vs) × (m ≡ n)
-one_run f (done l e) (done l' e') = (refl, refl)
-one_run f (done l e) (lower l' e' r) = (cc, cc)
-one_run f (done l e) (higher l' e' r) = (cc, cc)
-one_run f (lower l e s) (done l' e') = (cc, cc)
-one_run f (lower l e s) (lower l' e' r) = let i = one_run f s r in (ap (λ (ws : List GroupVerdict). Lower ∷ ws) i.0, i.1)
-one_run f (lower l e s) (higher l' e' r) = (cc, cc)
-one_run f (higher l e s) (done l' e') = (cc, cc)
-one_run f (higher l e s) (lower l' e' r) = (cc, cc)
-one_run f (higher l e s) (higher l' e' r) = let i = one_run f s r in (ap (λ (ws : List GroupVerdict). Higher ∷ ws) i.0, i.1)
+-- a judge's searches from one range have the same verdicts, and end at the same place
+pub one_search : (f : ℕ → GroupVerdict) {a b m n : ℕ} {us vs : List GroupVerdict} → Search f a b us m → Search f a b vs n → (us ≡ vs) × (m ≡ n)
+one_search f (done l e) (done l' e') = (refl, refl)
+one_search f (done l e) (lower l' e' r) = (cc, cc)
+one_search f (done l e) (higher l' e' r) = (cc, cc)
+one_search f (lower l e s) (done l' e') = (cc, cc)
+one_search f (lower l e s) (lower l' e' r) = let i = one_search f s r in (ap (λ (ws : List GroupVerdict). Lower ∷ ws) i.0, i.1)
+one_search f (lower l e s) (higher l' e' r) = (cc, cc)
+one_search f (higher l e s) (done l' e') = (cc, cc)
+one_search f (higher l e s) (lower l' e' r) = (cc, cc)
+one_search f (higher l e s) (higher l' e' r) = let i = one_search f s r in (ap (λ (ws : List GroupVerdict). Higher ∷ ws) i.0, i.1)
 
 module _ {E : Type 0} {before : E → E → Bool} (place : E → ℕ) (order : IsOrder before) (agrees : PlacesAgree before place) where
   -- whatever the target, the weighing of lists says what the place of their element of rank k says
@@ -100,10 +100,10 @@ module _ {E : Type 0} {before : E → E → Bool} (place : E → ℕ) (order : I
       let some = closes (place x) size lo hi inside.0 inside.1 (less_than_power size) in
       record {
         some_search = (some.0, same_run alone referee (λ m. sym (agree m)) some.1);
-        ends_there = λ verdicts m run. (one_run alone (same_run referee alone agree run) some.1).1;
+        ends_there = λ verdicts m run. (one_search alone (same_run referee alone agree run) some.1).1;
         few = λ verdicts m run.
             at_most_log_plus_one size (length verdicts) (omega arith) (λ j h.
             let short = closes (place x) j lo hi inside.0 inside.1 h in
-            rw (one_run alone (same_run referee alone agree run) short.1).0 short.2);
+            rw (one_search alone (same_run referee alone agree run) short.1).0 short.2);
         rebuilt = λ verdicts m run. same_run referee alone agree run;
       }

@@ -14,7 +14,8 @@ use Rattle.referees.specs.declared.verdict.GroupVerdict.TheVariants.{Lower, High
 use Rattle.runs.specs.Answers.{question_answer}
 use Rattle.faults.specs.RefusalOrder.{check, first_check, answered}
 use Rattle.elements.specs.Limits.{saturated}
-use Rattle.runs.specs.declared.finished.Finished.{Finished}
+use Rattle.runs.specs.Finishes.{Outcome}
+use Rattle.runs.specs.Slips.{spent}
 use Rattle.runs.specs.declared.slip.Slip.{Slip}
 use Rattle.group.specs.SeatValues.{SeatValue, new_seat, with_counts, seat_after, seat_number, gathered, seats_refusal, seat_refusal}
 use Rattle.group.specs.SeatCalls.{seats_of}
@@ -33,7 +34,18 @@ use Rattle.group.specs.declared.run.StagedRun.TheVariants.{Comparing as StillCom
 abbrev pub Stepped : Type 0 → Type 0
 Stepped T = Result (Advanced T) (Refused (Run T Comparing))
 
--- how far a run has come, as plain values: its rank, the sum of the declared lengths, the range lo to hi that it was opened
+-- how far a run has come
+abbrev pub progress_of_run : {T S : Type 0} → Run T S → Progress
+progress_of_run run = run.progress
+
+-- the range that it was opened with, and what is left of it
+abbrev pub limits_of : Progress → Range
+limits_of progress = progress.limits
+
+abbrev pub range_of : Progress → Range
+range_of progress = progress.range
+
+-- the same as plain values: its rank, the sum of the declared lengths, the range lo to hi that it was opened
 -- with and the range a to b that is left, the number of verdicts made, and the state of each seat
 pub record State : Type 0 where
   pub rank : ℕ
@@ -91,10 +103,10 @@ IsOpened lowest highest lengths lo hi rank (Ok progress) =
 IsOpened lowest highest lengths lo hi rank (Err refusal) = opening_refusal lowest highest lengths lo hi rank ≡ Some refusal
 
 -- an opening, accepted or refused; one that is accepted hands out a slip that is still to be taken back
-abbrev pub Opens : {T : Type 0} → (lowest highest : ℕ) → List ℕ → (lo hi rank : ℕ) → Result (Run T Comparing × Slip OfGroup) RunFault → Type 0
+abbrev pub Opens : {T : Type 0} → (lowest highest : ℕ) → List ℕ → (lo hi rank : ℕ) → Result (Run T Comparing × Slip OfGroup T) RunFault → Type 0
 Opens lowest highest lengths lo hi rank (Ok opened) =
-    (opening_refusal lowest highest lengths lo hi rank ≡ None) × (state_of opened.0.progress ≡ opened_state lengths lo hi rank)
-    × (opened.1.spent ≡ false)
+    (opening_refusal lowest highest lengths lo hi rank ≡ None) × (state_of (progress_of_run opened.0) ≡ opened_state lengths lo hi rank)
+    × (spent opened.1 ≡ false)
 Opens lowest highest lengths lo hi rank (Err fault) =
     (refusal : Refusal) × (opening_refusal lowest highest lengths lo hi rank ≡ Some refusal) × (fault ≡ Own refusal None)
 
@@ -144,10 +156,10 @@ moved_state verdict old = record {
 }
 
 module _ {T : Type 0} where
-  -- in either stage, how far the run has come
+  -- in either stage
   abbrev pub progress_of : StagedRun T → Progress
-  progress_of (StillComparing run) = run.progress
-  progress_of (NowClosing run) = run.progress
+  progress_of (StillComparing run) = progress_of_run run
+  progress_of (NowClosing run) = progress_of_run run
 
   -- a run is comparing until the verdict is done, and then closing
   abbrev pub IsStageAfter : GroupVerdict → StagedRun T → Type 0
@@ -166,9 +178,9 @@ module _ {T : Type 0} where
   -- the referee's verdict, and the run in the stage that follows; refused, the run as it was
   abbrev pub Steps : Run T Comparing → (stock : ℕ) → Stepped T → Type 0
   Steps run stock (Ok advanced) =
-      (step_asks (state_of run.progress) stock ≡ Ok advanced.verdict) × IsStageAfter advanced.verdict advanced.run
-      × (state_of (progress_of advanced.run) ≡ moved_state advanced.verdict (state_of run.progress))
-  Steps run stock (Err refused) = (step_asks (state_of run.progress) stock ≡ Err refused.fault) × (refused.given ≡ run)
+      (step_asks (state_of (progress_of_run run)) stock ≡ Ok advanced.verdict) × IsStageAfter advanced.verdict advanced.run
+      × (state_of (progress_of advanced.run) ≡ moved_state advanced.verdict (state_of (progress_of_run run)))
+  Steps run stock (Err refused) = (step_asks (state_of (progress_of_run run)) stock ≡ Err refused.fault) × (refused.given ≡ run)
 
 -- break-off answers the number of verdicts made
 abbrev pub BreaksOff : Progress → (count : ℕ) → Type 0
@@ -184,6 +196,6 @@ abbrev pub IsElementAt : {T : Type 0} → (place : T → ℕ) → (lowest highes
 IsElementAt {T} place lowest highest sample n x = (answer : Option T) × AtPlace place lowest highest n answer × (x ≡ or_else sample answer)
 
 -- Finish: the element at the target, and the number of verdicts.
-pub record Finishes {T : Type 0} (place : T → ℕ) (lowest highest : ℕ) (sample : T) (progress : Progress) (finished : Finished T) : Type 0 where
-  pub element : IsElementAt place lowest highest sample (target progress.range.from progress.range.to) finished.result
-  pub count : BreaksOff progress finished.count
+pub record Finishes {T : Type 0} (place : T → ℕ) (lowest highest : ℕ) (sample : T) (progress : Progress) (outcome : Outcome T) : Type 0 where
+  pub element : IsElementAt place lowest highest sample (target (range_of progress).from (range_of progress).to) outcome.result
+  pub count : BreaksOff progress outcome.count

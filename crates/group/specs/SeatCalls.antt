@@ -14,6 +14,13 @@ use Rattle.group.specs.declared.group_seats.GroupSeats.{GroupSeats}
 abbrev pub seats_of : GroupSeats → List SeatValue
 seats_of seats = map seat_value (take seats.count (table_seats seats.table))
 
+-- how many seats there are, and the sum of the lengths that they declared
+abbrev pub count_of : GroupSeats → ℕ
+count_of seats = seats.count
+
+abbrev pub total_of : GroupSeats → ℕ
+total_of seats = seats.total
+
 -- no seat
 abbrev pub IsEmpty : GroupSeats → Type 0
 IsEmpty seats = (seats.count ≡ 0) × (seats.total ≡ 0)

@@ -13,7 +13,7 @@ use referees::verdict::GroupVerdict;
 
 /// The seats of a group: how many there are, the table of their states, and the sum of the lengths that they declared. The
 /// first states of the table are theirs, and the others never hold counts.
-#[derive(Clone, Copy, Debug, PartialEq, Eq)]
+#[derive(Clone, Copy, PartialEq, Eq)]
 pub struct GroupSeats {
     pub(crate) count: u32,
     pub(crate) table: SeatTable,
@@ -25,7 +25,7 @@ pub struct GroupSeats {
 
 impl GroupSeats {
     ghost use Rattle.std.specs.Prelude.{◌<◌, ◌≡◌, map};
-    ghost use Rattle.group.specs.SeatCalls.{IsEmpty, IsSeated, Seats, seats_of, IsSeatNumber, ReportsAs, TakesReport};
+    ghost use Rattle.group.specs.SeatCalls.{IsEmpty, IsSeated, Seats, count_of, total_of, seats_of, IsSeatNumber, ReportsAs, TakesReport};
     ghost use Rattle.group.specs.SeatValues.{seat_after, gathered};
 
     /// No seat yet.
@@ -44,7 +44,7 @@ impl GroupSeats {
     /// One seat more, which has declared a length, or none where that is too long.
     #[tactic(auto, using(crate::proofs::Seated::seated_more, crate::proofs::Idle::idle_more, crate::proofs::TableTotals::length_table))]
     fn with_seat(self, declared: u32) -> Option<GroupSeats>
-        requires { self.count < 16 }
+        requires { count_of self < 16 }
         ensures { IsSeated self declared result }
     {
         let seat = SeatState::new(declared)?;
@@ -116,14 +116,14 @@ impl GroupSeats {
     #[tactic(auto, using(crate::proofs::After::seated_after, crate::proofs::Idle::idle_after))]
     pub(crate) fn advance(&mut self, verdict: GroupVerdict)
         ensures seats { seats_of self.new ≡ map (seat_after verdict) (seats_of self.old) }
-        ensures total { self.new.total ≡ self.old.total }
+        ensures total { total_of self.new ≡ total_of self.old }
     {
         table_advance(&mut self.table, verdict);
     }
 
     /// The sum of the lengths that the seats declared.
     pub(crate) fn total(&self) -> u32
-        ensures { result ≡ self.now.total }
+        ensures { result ≡ total_of self.now }
     {
         self.total
     }

@@ -1,5 +1,5 @@
 ghost use Rattle.group.specs.GroupCalls.{IsWithin, IsOpened, Opens};
-ghost use Rattle.group.specs.GroupHistoryLaw.{HistoriesKeepLaw};
+ghost use Rattle.group.specs.GroupHistoryLaw.{HistoriesKeepLaw, HistoriesTellTheSame};
 
 use crate::group_seats::GroupSeats;
 use crate::progress::Progress;
@@ -46,7 +46,7 @@ fn start<T: Placed>(
     lo: u64,
     hi: u64,
     rank: u32,
-) -> Result<(Run<T, Comparing>, Slip<OfGroup>), RunFault>
+) -> Result<(Run<T, Comparing>, Slip<OfGroup, T>), RunFault>
     ensures { Opens T.Placed.LOWEST T.Placed.HIGHEST lengths.now lo hi rank result }
 {
     let progress = opened::<T>(lengths, lo, hi, rank).map_err(|refusal| RunFault::Own(
@@ -61,15 +61,18 @@ fn start<T: Placed>(
 }
 
 /// Opens a run for the element of a rank of lists of which the lengths are declared, one a seat, and of which every element's
-/// place is from `lo` to `hi`. Whatever calls follow, in whatever order and with whatever referee, their history keeps the law.
+/// place is from `lo` to `hi`. Whatever calls follow, in whatever order and with whatever referee, their history keeps the law,
+/// and what it tells a seat follows from the seat's own list and the result. The run is comparing, since every group makes at
+/// least one verdict, and the slip is given back to the call that ends it.
 pub fn open<T: Placed>(
     lengths: &[u32],
     lo: u64,
     hi: u64,
     rank: u32,
-) -> Result<(Run<T, Comparing>, Slip<OfGroup>), RunFault>
+) -> Result<(Run<T, Comparing>, Slip<OfGroup, T>), RunFault>
     ensures opens { Opens T.Placed.LOWEST T.Placed.HIGHEST lengths.now lo hi rank result }
     ensures lawful { HistoriesKeepLaw T.Ordered.before T.Ordered.sample T.Placed.place T.Placed.LOWEST T.Placed.HIGHEST lengths.now lo hi rank result }
+    ensures tells { HistoriesTellTheSame T.Ordered.before T.Ordered.sample T.Placed.place T.Placed.LOWEST T.Placed.HIGHEST lengths.now lo hi rank result }
 {
     start(lengths, lo, hi, rank)
 }

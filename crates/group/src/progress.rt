@@ -18,7 +18,7 @@ use std::marker::PhantomData;
 
 /// How far a run has come, in either stage: its rank, the range that it was opened with and what is left of it, the number of
 /// verdicts made, and its seats.
-#[derive(Clone, Copy, Debug, PartialEq, Eq)]
+#[derive(Clone, Copy, PartialEq, Eq)]
 pub struct Progress {
     pub(crate) rank: u32,
     pub(crate) limits: Range,
@@ -43,8 +43,8 @@ impl Progress {
         &self,
         referee: &mut R,
     ) -> Result<GroupVerdict, RunFault>
-        ensures answers { result ≡ step_asks (state_of self.now) (R.Referee.stock referee.old) }
-        ensures asks { AsksOne R.Referee.stock R.Referee.spends referee.old referee.new result }
+        ensures answers { result ≡ step_asks (state_of self.now) (R.Stocked.stock referee.old) }
+        ensures asks { AsksOne R.Stocked.stock R.Referee.spends referee.old referee.new result }
     {
         let Counts { below, above } = self
             .seats

@@ -1,4 +1,4 @@
-ghost use Rattle.group.specs.GroupCalls.{IsElementAt, BreaksOff, step_answer, Reports, Steps, Finishes};
+ghost use Rattle.group.specs.GroupCalls.{progress_of_run, progress_of, limits_of, range_of, IsElementAt, BreaksOff, step_answer, Reports, Steps, Finishes};
 ghost use Rattle.std.specs.Prelude.{◌≡◌};
 ghost use Rattle.runs.specs.Answers.{AsksOne};
 
@@ -25,8 +25,8 @@ pub struct Run<T, S: Stage> {
     pub(crate) elements: PhantomData<T>,
 }
 
-/// The kind of a group's slips; only the calls here make it.
-#[derive(Clone, Copy)]
+/// The key of a group's slips and results; only the calls here make one.
+#[derive(Clone, Copy, PartialEq, Eq)]
 pub struct OfGroup {
     pub(crate) made_here: (),
 }
@@ -53,24 +53,57 @@ fn element_at<T: Placed>(place: u64) -> T
     T::at_place(place).unwrap_or(T::sample())
 }
 
+/// What both stages take, so that a program need not look which of them it is.
+impl<T: Placed> StagedRun<T> {
+    /// The range of places that the run was opened with, where every element of every list is.
+    pub fn limits(&self) -> Range
+        ensures { result ≡ limits_of (progress_of self.now) }
+    {
+        match self {
+            StagedRun::Comparing(run) => run.limits(),
+            StagedRun::Closing(run) => run.limits(),
+        }
+    }
+
+    /// What is left of it. In the closing stage its target is the place of the result.
+    pub fn range(&self) -> Range
+        ensures { result ≡ range_of (progress_of self.now) }
+    {
+        match self {
+            StagedRun::Comparing(run) => run.range(),
+            StagedRun::Closing(run) => run.range(),
+        }
+    }
+
+    /// Ends the run with no result, and answers the number of verdicts made.
+    pub fn break_off(self, slip: Slip<OfGroup, T>) -> u32
+        ensures { BreaksOff (progress_of self) result }
+    {
+        match self {
+            StagedRun::Comparing(run) => run.break_off(slip),
+            StagedRun::Closing(run) => run.break_off(slip),
+        }
+    }
+}
+
 impl<T: Placed, S: Stage> Run<T, S> {
     /// The range of places that the run was opened with, where every element of every list is.
     pub fn limits(&self) -> Range
-        ensures { result ≡ self.now.progress.limits }
+        ensures { result ≡ limits_of (progress_of_run self.now) }
     {
         self.progress.limits
     }
 
     /// What is left of it, which gives the target that every seat is asked for.
     pub fn range(&self) -> Range
-        ensures { result ≡ self.now.progress.range }
+        ensures { result ≡ range_of (progress_of_run self.now) }
     {
         self.progress.range
     }
 
     /// Ends the run with no result, and answers the number of verdicts made.
-    pub fn break_off(self, slip: Slip<OfGroup>) -> u32
-        ensures { BreaksOff self.progress result }
+    pub fn break_off(self, slip: Slip<OfGroup, T>) -> u32
+        ensures { BreaksOff (progress_of_run self) result }
     {
         slip.take_back(OfGroup { made_here: () });
         self.progress.made
@@ -80,7 +113,7 @@ impl<T: Placed, S: Stage> Run<T, S> {
 impl<T: Placed> Run<T, Comparing> {
     /// Takes what a seat, numbered from 1, reports at the target: how many of its places are below, and above.
     pub fn report(&mut self, number: u32, counts: Counts) -> Result<(), RunFault>
-        ensures reports { Reports number counts self.old.progress result self.new.progress }
+        ensures reports { Reports number counts (progress_of_run self.old) result (progress_of_run self.new) }
     {
         self.progress.report(number, counts)
     }
@@ -90,8 +123,8 @@ impl<T: Placed> Run<T, Comparing> {
         self,
         referee: &mut R,
     ) -> Result<Advanced<T>, Refused<Run<T, Comparing>>>
-        ensures steps { Steps self (R.Referee.stock referee.old) result }
-        ensures asks { AsksOne R.Referee.stock R.Referee.spends referee.old referee.new (step_answer result) }
+        ensures steps { Steps self (R.Stocked.stock referee.old) result }
+        ensures asks { AsksOne R.Stocked.stock R.Referee.spends referee.old referee.new (step_answer result) }
     {
         match self.progress.ask(referee) {
             Ok(verdict) => Ok(Advanced {
@@ -105,12 +138,10 @@ impl<T: Placed> Run<T, Comparing> {
 
 impl<T: Placed> Run<T, Closing> {
     /// Hands out the element at the target, and the number of verdicts. It asks nobody.
-    pub fn finish(self, slip: Slip<OfGroup>) -> Finished<T>
-        ensures { Finishes T.Placed.place T.Placed.LOWEST T.Placed.HIGHEST T.Ordered.sample self.progress result }
+    pub fn finish(self, slip: Slip<OfGroup, T>) -> Finished<OfGroup, T>
+        ensures { Finishes T.Placed.place T.Placed.LOWEST T.Placed.HIGHEST T.Ordered.sample (progress_of_run self) result }
     {
-        Finished {
-            result: element_at(self.range().target()),
-            count: self.break_off(slip),
-        }
+        let element = element_at(self.range().target());
+        Finished::issue(OfGroup { made_here: () }, element, self.break_off(slip))
     }
 }

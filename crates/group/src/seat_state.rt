@@ -11,7 +11,7 @@ use referees::verdict::GroupVerdict;
 
 /// What is known of a seat, and the counts that it has reported in this round, if it has. No declared length is over
 /// 65,536, and the counts fit in it, so that a table's add up to numbers of 32 bits.
-#[derive(Clone, Copy, Debug, PartialEq, Eq)]
+#[derive(Clone, Copy, PartialEq, Eq)]
 pub struct SeatState {
     pub known: CountBounds,
     pub given: Option<Counts>,

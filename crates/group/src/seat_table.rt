@@ -12,7 +12,7 @@ use crate::totals::Totals;
 use referees::verdict::GroupVerdict;
 
 /// The seats of even numbers and those of odd ones.
-#[derive(Clone, Copy, Debug, PartialEq, Eq)]
+#[derive(Clone, Copy, PartialEq, Eq)]
 pub(crate) struct Both<R> {
     pub even: R,
     pub odd: R,

@@ -3,7 +3,7 @@ ghost use Rattle.group.specs.SeatTotals.{added};
 
 /// What the states of some seats add up to: how many seats have given their counts in this round, and the sums of these. A number
 /// that would not fit is the largest that does.
-#[derive(Clone, Copy, Debug, PartialEq, Eq)]
+#[derive(Clone, Copy, PartialEq, Eq)]
 pub(crate) struct Totals {
     pub given: u32,
     pub below: u32,

@@ -14,13 +14,13 @@ fn report<S: Stage>(run: &mut PairRun<Delay, S>, a: &[Delay], b: &[Delay]) -> Re
 }
 
 /// Ends a run of which a call was refused.
-fn end<S: Stage>(run: PairRun<Delay, S>, slip: Slip<OfPair>, fault: RunFault) -> RunFault {
+fn end<S: Stage>(run: PairRun<Delay, S>, slip: Slip<OfPair, Delay>, fault: RunFault) -> RunFault {
     run.break_off(slip);
     fault
 }
 
 /// Plays a run over two lists of three from its opening to its result.
-fn find_median(a: &[Delay], b: &[Delay]) -> Result<Finished<Delay>, RunFault> {
+fn find_median(a: &[Delay], b: &[Delay]) -> Result<Finished<OfPair, Delay>, RunFault> {
     let mut referee = Plain::new(64);
     let (mut stage, slip) = open_pair(3, 3, median_rank(6)?)?;
     loop {
@@ -51,7 +51,11 @@ fn main(rt: HostRuntime) -> io::Result<()> {
     let a = [12, 40, 55].map(|micros| Delay { micros });
     let b = [20, 31, 70].map(|micros| Delay { micros });
     match find_median(&a, &b) {
-        Ok(Finished { result, count }) => println!(rt; "median {result}, after {count} verdicts"),
+        Ok(finished) => println!(rt;
+            "median {}, after {} verdicts",
+            finished.result(),
+            finished.count(),
+        ),
         Err(fault) => println!(rt; "{fault}"),
     }
 }

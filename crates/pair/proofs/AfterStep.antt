@@ -86,7 +86,7 @@ module _ {T : Type 0} {before : T → T → Bool} (o : IsOrder before) {declared
   -- a verdict on what both sides gave leaves a run that stands to the trace with it
   pub after_verdict : (stock : ℕ) (trace : PairTrace T) {j : ℕ} {old new : Progress T} {verdict : PairVerdict} → halvings k ≤ 17 →
       step_asks before old stock ≡ Ok verdict → Moves old verdict new → After before declared k (suc j) old trace →
-      After before declared k j new (stepped (Ok verdict) ∷ trace)
+      After before declared k j new (stepped stock (Ok verdict) ∷ trace)
   after_verdict stock trace {old = old} {verdict = verdict} few answers moves after =
       let both = asked_of_both (λ given. first_of before given.0 given.1) old stock verdict answers in
       record {

@@ -13,6 +13,7 @@ use Rattle.pair.specs.declared.side.Side.{Side}
 use Rattle.pair.specs.declared.side.Side.TheVariants.{A, B}
 use Rattle.pair.proofs.FinishedExchanges.{finished_is_bisection}
 use Rattle.pair.proofs.Logarithms.{halvings_are_log}
+use Rattle.runs.specs.Finishes.{Outcome}
 use Rattle.runs.specs.HistoryLaw.{ExplainAll, FinishLaw}
 use Rattle.runs.specs.Traces.{verdicts}
 use Rattle.pair.specs.HalvedWindow.{offset_of}
@@ -60,11 +61,12 @@ module _ {T : Type 0} {before : T → T → Bool} (o : IsOrder before) (sample :
   all_verdicts lists e = sym (finished_so.verdicts_are lists (explain_finished lists e))
 
   -- so the finish is lawful
-  pub finish_lawful : (count : ℕ) → BreaksOff progress count → FinishLaw (pair_protocol before declared k) (element_of sample lesser) count trace
-  finish_lawful count b =
-      let all : count ≡ halvings k = omega (arith, b, after.made_is, after.led.rounds) in
+  pub finish_lawful : (outcome : Outcome T) → outcome.result ≡ element_of sample lesser → BreaksOff progress outcome.count →
+      FinishLaw (pair_protocol before declared k) outcome trace
+  finish_lawful outcome r b =
+      let all : outcome.count ≡ halvings k = omega (arith, b, after.made_is, after.led.rounds) in
       record {
-        result_is = result_has_rank;
+        result_is = λ lists e. subst (Ranked before k (joint_pair lists)) (sym r) (result_has_rank lists e);
         count_is = b ∙ after.made_is;
         count_fits = subst (IsCeilLog2 k) (sym all) (halvings_are_log k);
         all_made = all_verdicts;

@@ -1,5 +1,5 @@
 -- Where a history stands, a run stands to its trace, in the stage that fits.
-use Rattle.std.proofs.Common.{◌≡◌, ℕ, zero, suc, Bool, ◌∷◌, Ok, Err, Result, sym, subst}
+use Rattle.std.proofs.Common.{◌≡◌, ℕ, zero, suc, Bool, ◌∷◌, Some, Ok, Err, Result, sym, subst}
 use Rattle.elements.specs.Orders.{IsOrder}
 use Rattle.elements.specs.declared.entry.Entry.{Entry}
 use Rattle.faults.specs.declared.fault.RunFault.{RunFault}
@@ -7,10 +7,10 @@ use Rattle.referees.specs.declared.verdict.PairVerdict.{PairVerdict}
 use Rattle.pair.specs.Rows.{halvings}
 use Rattle.pair.specs.Bisection.{OfSides}
 use Rattle.pair.specs.declared.side.Side.{Side}
-use Rattle.runs.specs.Traces.{reported, stepped, not_finished}
+use Rattle.runs.specs.Traces.{reported, stepped, finished}
 use Rattle.runs.specs.declared.slip.Slip.{Slip}
-use Rattle.pair.specs.PairCalls.{Stepped, Ending, Reports, Steps, Finishes, IsOpened, stage_of, progress_of, step_answer, step_asks, Moves}
-use Rattle.pair.specs.Histories.{PairTrace, Now, going, over, History, opened, report, step, finish, break_off, with_progress, step_leaves, finish_event, finish_leaves}
+use Rattle.pair.specs.PairCalls.{Stepped, Ending, Reports, Steps, Finishes, IsOpened, stage_of, progress_of, with_progress, step_answer, finish_answer, step_asks, Moves}
+use Rattle.pair.specs.Histories.{PairTrace, Now, going, over, History, opened, report, step, finish, break_off, step_leaves, finish_leaves}
 use Rattle.pair.specs.declared.progress.Progress.{Progress}
 use Rattle.runs.specs.declared.stage.Closing.{Closing as ClosingStage}
 use Rattle.runs.specs.declared.stage.Comparing.{Comparing as ComparingStage}
@@ -43,7 +43,7 @@ module _ {T : Type 0} {before : T → T → Bool} (o : IsOrder before) (sample :
   -- a verdict keeps it so
   at_verdict : (run : Run T ComparingStage) (past : PairTrace T) (stock : ℕ) (verdict : PairVerdict) (stage : StagedRun T) (j : ℕ) →
       step_asks before run.progress stock ≡ Ok verdict → Moves run.progress verdict (progress_of stage) → stage ≡ stage_of (progress_of stage) →
-      After before declared k j run.progress past → FitsStage (Comparing run) → StandsAt before declared k (going stage) (stepped (Ok verdict) ∷ past)
+      After before declared k j run.progress past → FitsStage (Comparing run) → StandsAt before declared k (going stage) (stepped stock (Ok verdict) ∷ past)
   at_verdict run past stock verdict stage zero answers moves staged after wide = absurd (wide (size_is after.led))
   at_verdict run past stock verdict stage (suc j) answers moves staged after wide =
       (j, after_verdict o stock past allowed.few_halvings answers moves after, staged_fits stage staged)
@@ -51,18 +51,18 @@ module _ {T : Type 0} {before : T → T → Bool} (o : IsOrder before) (sample :
   -- so does a step, accepted or refused
   at_step : (run : Run T ComparingStage) (past : PairTrace T) (stock : ℕ) (result : Stepped T) → Steps before run stock result →
       StandsAt before declared k (going (Comparing run)) past →
-      StandsAt before declared k (going (step_leaves result)) (stepped (step_answer result) ∷ past)
+      StandsAt before declared k (going (step_leaves result)) (stepped stock (step_answer result) ∷ past)
   at_step run past stock (Ok advanced) s at = at_verdict run past stock advanced.verdict advanced.run at.0 s.0 s.1 s.2 at.1 at.2
   at_step run past stock (Err refused) s at =
-      subst (λ (r : Run T ComparingStage). StandsAt before declared k (going (Comparing r)) (stepped (Err refused.fault) ∷ past)) (sym s.1) at
+      subst (λ (r : Run T ComparingStage). StandsAt before declared k (going (Comparing r)) (stepped stock (Err refused.fault) ∷ past)) (sym s.1) at
 
   -- and a finish
-  at_finish : (run : Run T ClosingStage) (past : PairTrace T) (slip : Slip OfPair) (stock : ℕ) (result : Ending T) →
+  at_finish : (run : Run T ClosingStage) (past : PairTrace T) (slip : Slip OfPair T) (stock : ℕ) (result : Ending T) →
       Finishes before sample run slip stock result → StandsAt before declared k (going (Closing run)) past →
-      StandsAt before declared k (finish_leaves result) (finish_event result ∷ past)
-  at_finish run past slip stock (Ok ending) f at = (at.0, run.progress, at.1)
+      StandsAt before declared k (finish_leaves result) (finished (Some stock) (finish_answer result) ∷ past)
+  at_finish run past slip stock (Ok outcome) f at = (at.0, run.progress, at.1)
   at_finish run past slip stock (Err refused) f at =
-      subst (λ (r : Run T ClosingStage). StandsAt before declared k (going (Closing r)) (not_finished refused.fault ∷ past)) (sym f.1) at
+      subst (λ (r : Run T ClosingStage). StandsAt before declared k (going (Closing r)) (finished (Some stock) (Err refused.fault) ∷ past)) (sym f.1) at
 
   -- so it is wherever a history of a run just opened stands
   pub stands_at : (start : StagedRun T) → start ≡ stage_of (progress_of start) → IsOpened declared k (progress_of start) →

@@ -19,6 +19,7 @@ pub mod RunStands
 pub mod AfterReport
 pub mod AfterStep
 pub mod ReportLaw
+pub mod AskedReferee
 pub mod TraceLists
 pub mod FinishedTrace
 pub mod RunStages

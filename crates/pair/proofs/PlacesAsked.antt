@@ -28,7 +28,7 @@ pub record LedTo (k j : ℕ) (verdicts : List PairVerdict) (window : Window) : T
 
 module _ {k j : ℕ} {verdicts : List PairVerdict} {window : Window} (led : LedTo k j verdicts window) where
   -- it has the offsets and the size that the bisection gives it
-  follows : FollowsVerdicts k (reverse verdicts) window
+  pub follows : FollowsVerdicts k (reverse verdicts) window
   follows = windows_follow_verdicts k led.whole window (reverse verdicts) led.is_whole led.halved
 
   -- its size is the power of two with as many halvings as are left

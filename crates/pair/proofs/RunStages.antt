@@ -6,8 +6,7 @@ use Rattle.faults.specs.declared.fault.RunFault.{RunFault}
 use Rattle.pair.specs.declared.side.Side.{Side}
 use Rattle.pair.specs.declared.side.Side.TheVariants.{A, B}
 use Rattle.pair.specs.declared.window.Window.{Window}
-use Rattle.pair.specs.PairCalls.{Reports, stage_of, progress_of, left_by}
-use Rattle.pair.specs.Histories.{with_progress}
+use Rattle.pair.specs.PairCalls.{Reports, stage_of, progress_of, with_progress, left_by}
 use Rattle.pair.specs.declared.progress.Progress.{Progress}
 use Rattle.pair.specs.declared.run.StagedRun.{StagedRun}
 use Rattle.pair.specs.declared.run.StagedRun.TheVariants.{Comparing, Closing}

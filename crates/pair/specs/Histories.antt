@@ -1,12 +1,12 @@
 -- Histories of calls on the run of a pair, built from what the contracts of the calls say.
-use Rattle.std.specs.Prelude.{ℕ, Bool, [], ◌∷◌, Ok, Err, Result}
+use Rattle.std.specs.Prelude.{ℕ, Bool, [], ◌∷◌, Some, Ok, Err, Result}
 use Rattle.elements.specs.declared.entry.Entry.{Entry}
 use Rattle.faults.specs.declared.fault.RunFault.{RunFault}
 use Rattle.referees.specs.declared.verdict.PairVerdict.{PairVerdict}
 use Rattle.pair.specs.declared.side.Side.{Side}
-use Rattle.runs.specs.Traces.{Event, reported, stepped, finished, not_finished, broken_off, Trace}
+use Rattle.runs.specs.Traces.{Event, reported, stepped, finished, broken_off, Trace}
 use Rattle.runs.specs.declared.slip.Slip.{Slip}
-use Rattle.pair.specs.PairCalls.{Stepped, Ending, Reports, Steps, Finishes, BreaksOff, progress_of, step_answer}
+use Rattle.pair.specs.PairCalls.{Stepped, Ending, Reports, Steps, Finishes, BreaksOff, progress_of, with_progress, step_answer, finish_answer}
 use Rattle.pair.specs.declared.progress.Progress.{Progress}
 use Rattle.runs.specs.declared.stage.Closing.{Closing as ClosingStage}
 use Rattle.runs.specs.declared.stage.Comparing.{Comparing as ComparingStage}
@@ -28,21 +28,12 @@ pub data Now (T : Type 0) : Type 0 where
   over : Now T
 
 module _ {T : Type 0} where
-  -- the run in the same stage, come this far
-  abbrev pub with_progress : Progress T → StagedRun T → StagedRun T
-  with_progress progress (Comparing run) = Comparing (record { progress = progress; stage = run.stage })
-  with_progress progress (Closing run) = Closing (record { progress = progress; stage = run.stage })
-
   abbrev pub step_leaves : Stepped T → StagedRun T
   step_leaves (Ok advanced) = advanced.run
   step_leaves (Err refused) = Comparing refused.given
 
-  abbrev pub finish_event : Ending T → PairEvent T
-  finish_event (Ok ending) = finished ending.result ending.count
-  finish_event (Err refused) = not_finished refused.fault
-
   abbrev pub finish_leaves : Ending T → Now T
-  finish_leaves (Ok ending) = over
+  finish_leaves (Ok outcome) = over
   finish_leaves (Err refused) = going (Closing refused.given.0)
 
 -- A history of a run just opened, with its trace and where it stands. Each call is given the run as the one before left it,
@@ -55,10 +46,10 @@ pub data History {T : Type 0} (before : T → T → Bool) (sample : T) (start : 
       History before sample start (reported side entry answer ∷ past) (going (with_progress left stage))
   step : {past : PairTrace T} {run : Run T ComparingStage} (stock : ℕ) (result : Stepped T) →
       History before sample start past (going (Comparing run)) → Steps before run stock result →
-      History before sample start (stepped (step_answer result) ∷ past) (going (step_leaves result))
-  finish : {past : PairTrace T} {run : Run T ClosingStage} (slip : Slip OfPair) (stock : ℕ) (result : Ending T) →
+      History before sample start (stepped stock (step_answer result) ∷ past) (going (step_leaves result))
+  finish : {past : PairTrace T} {run : Run T ClosingStage} (slip : Slip OfPair T) (stock : ℕ) (result : Ending T) →
       History before sample start past (going (Closing run)) → Finishes before sample run slip stock result →
-      History before sample start (finish_event result ∷ past) (finish_leaves result)
+      History before sample start (finished (Some stock) (finish_answer result) ∷ past) (finish_leaves result)
   break_off : {past : PairTrace T} {stage : StagedRun T} (count : ℕ) →
       History before sample start past (going stage) → BreaksOff (progress_of stage) count →
       History before sample start (broken_off count ∷ past) over

@@ -17,13 +17,14 @@ use Rattle.pair.specs.declared.side.Side.TheVariants.{A, B}
 use Rattle.runs.specs.Answers.{question_answer}
 use Rattle.faults.specs.RefusalOrder.{check, first_check, answered}
 use Rattle.elements.specs.Limits.{longest_list, saturated}
+use Rattle.runs.specs.Finishes.{Outcome}
+use Rattle.runs.specs.Slips.{spent}
 use Rattle.runs.specs.declared.slip.Slip.{Slip}
 use Rattle.pair.specs.HalvedWindow.{IsWhole, Halves, offset_of}
 use Rattle.pair.specs.SeatStates.{new_seat, seat_reporting, seat_after, state_of_side}
 use Rattle.pair.specs.declared.progress.Progress.{Progress}
 use Rattle.runs.specs.declared.stage.Closing.{Closing}
 use Rattle.runs.specs.declared.stage.Comparing.{Comparing}
-use Rattle.runs.specs.declared.finished.Finished.{Finished}
 use Rattle.runs.specs.declared.refused.Refused.{Refused}
 use Rattle.pair.specs.declared.run.Advanced.{Advanced}
 use Rattle.pair.specs.declared.run.OfPair.{OfPair}
@@ -37,7 +38,7 @@ Stepped T = Result (Advanced T) (Refused (Run T Comparing))
 
 -- what a finish comes to; a refused one gives back run and slip
 abbrev pub Ending : Type 0 → Type 0
-Ending T = Result (Finished T) (Refused (Run T Closing × Slip OfPair))
+Ending T = Result (Outcome T) (Refused (Run T Closing × Slip OfPair T))
 
 -- Opening: 9 where a length is over 65,536, then 11 where the rank is 0 or above the sum of the lengths.
 abbrev pub opening_refusal : OfSides → (rank : ℕ) → Option Refusal
@@ -72,16 +73,30 @@ module _ {T : Type 0} where
     pub made : new.made ≡ saturated (old.made + 1)
     pub seats : (side : Side) → state_of_side side new ≡ seat_after side verdict (state_of_side side old)
 
+  -- how far a run has come, and its stage; and the run that has come so far, in a stage
+  abbrev pub progress_of_run : {S : Type 0} → Run T S → Progress T
+  progress_of_run run = run.progress
+
+  abbrev pub stage_of_run : {S : Type 0} → Run T S → S
+  stage_of_run run = run.stage
+
+  abbrev pub run_at : {S : Type 0} → Progress T → S → Run T S
+  run_at progress stage = record { progress = progress; stage = stage }
+
   -- a run is comparing as long as its window has more than one place, and then closing
   abbrev pub stage_of : Progress T → StagedRun T
   stage_of progress =
-      cond (progress.window.size == 1) (NowClosing (record { progress = progress; stage = record {} }))
-      (StillComparing (record { progress = progress; stage = record {} }))
+      cond (progress.window.size == 1) (NowClosing (run_at progress (record {}))) (StillComparing (run_at progress (record {})))
 
   -- in either stage, how far the run has come
   abbrev pub progress_of : StagedRun T → Progress T
-  progress_of (StillComparing run) = run.progress
-  progress_of (NowClosing run) = run.progress
+  progress_of (StillComparing run) = progress_of_run run
+  progress_of (NowClosing run) = progress_of_run run
+
+  -- the run in the same stage, come this far
+  abbrev pub with_progress : Progress T → StagedRun T → StagedRun T
+  with_progress progress (StillComparing run) = StillComparing (run_at progress (stage_of_run run))
+  with_progress progress (NowClosing run) = NowClosing (run_at progress (stage_of_run run))
 
   -- a run just opened: the window is all of both rows, and no seat has reported yet
   pub record IsOpened (declared : OfSides) (rank : ℕ) (progress : Progress T) : Type 0 where
@@ -90,10 +105,10 @@ module _ {T : Type 0} where
     pub seats : (side : Side) → state_of_side side progress ≡ new_seat (declared side)
 
   -- an opening, accepted or refused; one that is accepted hands out a slip that is still to be taken back
-  abbrev pub Opens : OfSides → (rank : ℕ) → Result (StagedRun T × Slip OfPair) RunFault → Type 0
+  abbrev pub Opens : OfSides → (rank : ℕ) → Result (StagedRun T × Slip OfPair T) RunFault → Type 0
   Opens declared rank (Ok opened) =
       (opening_refusal declared rank ≡ None) × (opened.0 ≡ stage_of (progress_of opened.0)) × IsOpened declared rank (progress_of opened.0)
-      × (opened.1.spent ≡ false)
+      × (spent opened.1 ≡ false)
   Opens declared rank (Err fault) = (refusal : Refusal) × (opening_refusal declared rank ≡ Some refusal) × (fault ≡ Own refusal None)
 
   -- what a step answers, apart from the run
@@ -101,9 +116,9 @@ module _ {T : Type 0} where
   step_answer (Ok advanced) = Ok advanced.verdict
   step_answer (Err refused) = Err refused.fault
 
-  -- what a finish answers, apart from the run
-  abbrev pub finish_answer : Ending T → Result T RunFault
-  finish_answer (Ok finished) = Ok finished.result
+  -- what a finish answers, apart from the run and the slip
+  abbrev pub finish_answer : Ending T → Result (Outcome T) RunFault
+  finish_answer (Ok outcome) = Ok outcome
   finish_answer (Err refused) = Err refused.fault
 
   -- the element of an entry; for a mark, which no run leads to, the type's sample
@@ -135,17 +150,17 @@ module _ {T : Type 0} (before : T → T → Bool) where
 
   abbrev pub Steps : Run T Comparing → (stock : ℕ) → Stepped T → Type 0
   Steps run stock (Ok advanced) =
-      (step_asks run.progress stock ≡ Ok advanced.verdict) × Moves run.progress advanced.verdict (progress_of advanced.run)
+      (step_asks (progress_of_run run) stock ≡ Ok advanced.verdict) × Moves (progress_of_run run) advanced.verdict (progress_of advanced.run)
       × (advanced.run ≡ stage_of (progress_of advanced.run))
-  Steps run stock (Err refused) = (step_asks run.progress stock ≡ Err refused.fault) × (refused.given ≡ run)
+  Steps run stock (Err refused) = (step_asks (progress_of_run run) stock ≡ Err refused.fault) × (refused.given ≡ run)
 
   -- Finish: the lesser of both reports, and the number of verdicts; refused, run and slip as they were.
   abbrev pub finish_asks : Progress T → (stock : ℕ) → Result (Entry T) RunFault
   finish_asks progress stock = question_answer (λ reports. lesser_entry before reports.0 reports.1) (both_reports progress) stock
 
-  abbrev pub Finishes : (sample : T) → Run T Closing → Slip OfPair → (stock : ℕ) → Ending T → Type 0
-  Finishes sample run slip stock (Ok finished) =
-      (lesser : Entry T) × (finish_asks run.progress stock ≡ Ok lesser) × (finished.result ≡ element_of sample lesser)
-      × BreaksOff run.progress finished.count
+  abbrev pub Finishes : (sample : T) → Run T Closing → Slip OfPair T → (stock : ℕ) → Ending T → Type 0
+  Finishes sample run slip stock (Ok outcome) =
+      (lesser : Entry T) × (finish_asks (progress_of_run run) stock ≡ Ok lesser) × (outcome.result ≡ element_of sample lesser)
+      × BreaksOff (progress_of_run run) outcome.count
   Finishes sample run slip stock (Err refused) =
-      (finish_asks run.progress stock ≡ Err refused.fault) × (refused.given.0 ≡ run) × (refused.given.1 ≡ slip)
+      (finish_asks (progress_of_run run) stock ≡ Err refused.fault) × (refused.given.0 ≡ run) × (refused.given.1 ≡ slip)

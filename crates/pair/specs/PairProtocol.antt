@@ -6,7 +6,7 @@ use Rattle.elements.specs.Ranks.{Ranked}
 use Rattle.referees.specs.declared.verdict.PairVerdict.{PairVerdict}
 use Rattle.pair.specs.PairLaws.{AllDifferent, IsCeilLog2}
 use Rattle.pair.specs.Rebuilds.{rebuilt}
-use Rattle.pair.specs.PairReports.{Report, Explains}
+use Rattle.pair.specs.PairReports.{Report, Explains, KeepsRules}
 use Rattle.pair.specs.Rows.{halvings, row, entry_at}
 use Rattle.pair.specs.Sides.{seat_of}
 use Rattle.pair.specs.Bisection.{OfSides, offset_after, place_asked, joint_pair, pair_verdicts}
@@ -39,6 +39,8 @@ module _ {T : Type 0} (before : T → T → Bool) (declared : OfSides) (k : ℕ)
     Seated = λ side. Unit {0};
     name = seat_of;
     report_at = λ side verdicts entry. record { place = place_after k side verdicts; entry = entry };
+    KeepsRules = λ side verdicts earlier entry.
+        KeepsRules before side k (declared side) earlier (record { place = place_after k side verdicts; entry = entry });
     Explains = λ side reports xs. Explains before side k (declared side) reports xs;
     Fit = Fit;
     honest = honest;
@@ -49,5 +51,6 @@ module _ {T : Type 0} (before : T → T → Bool) (declared : OfSides) (k : ℕ)
     Makes = λ lists verdicts. pair_verdicts before k lists ≡ verdicts;
     Rebuilds = λ side xs x verdicts. rebuilt before side k xs x ≡ verdicts;
     Rebuildable = λ lists. AllDifferent (joint_pair lists);
+    asks_at_finish = true;
     VerdictCount = λ count. IsCeilLog2 k count;
   }

@@ -8,7 +8,7 @@ use referees::verdict::PairVerdict;
 
 /// The two entries of a seat that bound its next report: the one reported at the window's offset, and the one reported
 /// at its end. Where nothing was reported, at the ends of the row, below and above stand in.
-#[derive(Clone, Copy, Debug, PartialEq, Eq)]
+#[derive(Clone, Copy, PartialEq, Eq)]
 pub struct Bounds<T> {
     pub low: Entry<T>,
     pub high: Entry<T>,

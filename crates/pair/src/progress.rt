@@ -16,7 +16,7 @@ use referees::verdict::PairVerdict;
 use runs::stage::{Closing, Comparing};
 
 /// How far a run has come, in either stage: its window, the number of verdicts made, and the state of each seat.
-#[derive(Clone, Copy, Debug, PartialEq, Eq)]
+#[derive(Clone, Copy, PartialEq, Eq)]
 pub struct Progress<T> {
     pub window: Window,
     pub made: u32,
@@ -77,8 +77,8 @@ impl<T: Ordered> Progress<T> {
 
     /// Asks a referee which report is before the other, marks as elements.
     pub(crate) fn ask_first<R: Referee<T>>(&self, referee: &mut R) -> Result<PairVerdict, RunFault>
-        ensures answers { result ≡ step_asks T.Ordered.before self.now (R.Referee.stock referee.old) }
-        ensures asks { AsksOne R.Referee.stock R.Referee.spends referee.old referee.new result }
+        ensures answers { result ≡ step_asks T.Ordered.before self.now (R.Stocked.stock referee.old) }
+        ensures asks { AsksOne R.Stocked.stock R.Referee.spends referee.old referee.new result }
     {
         let (a, b) = self
             .reports()
@@ -88,8 +88,8 @@ impl<T: Ordered> Progress<T> {
 
     /// Asks a referee for the lesser of both reports.
     pub(crate) fn ask_lesser<R: Referee<T>>(&self, referee: &mut R) -> Result<Entry<T>, RunFault>
-        ensures answers { result ≡ finish_asks T.Ordered.before self.now (R.Referee.stock referee.old) }
-        ensures asks { AsksOne R.Referee.stock R.Referee.spends referee.old referee.new result }
+        ensures answers { result ≡ finish_asks T.Ordered.before self.now (R.Stocked.stock referee.old) }
+        ensures asks { AsksOne R.Stocked.stock R.Referee.spends referee.old referee.new result }
     {
         let (a, b) = self
             .reports()

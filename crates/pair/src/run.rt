@@ -1,5 +1,6 @@
 ghost use Rattle.std.specs.Prelude.{◌≡◌};
 ghost use Rattle.pair.specs.PairCalls.{element_of, BreaksOff, Reports, step_answer, Steps, finish_answer, Finishes};
+ghost use Rattle.pair.specs.PairCalls.{progress_of_run, stage_of_run, progress_of, with_progress};
 ghost use Rattle.runs.specs.Answers.{AsksOne};
 
 use crate::progress::Progress;
@@ -23,13 +24,13 @@ pub struct Run<T, S: Stage> {
     pub(crate) stage: S,
 }
 
-/// The kind of a pair's slips; only the calls here make it.
-#[derive(Clone, Copy)]
+/// The key of a pair's slips and results; only the calls here make it.
+#[derive(Clone, Copy, PartialEq, Eq)]
 pub struct OfPair {
     pub(crate) made_here: (),
 }
 
-/// A run in whichever stage it is.
+/// A run in whichever stage it is. It takes what both stages take; to step it or to finish it, match on its stage.
 #[derive(Drop)]
 pub enum StagedRun<T> {
     Comparing(Run<T, Comparing>),
@@ -56,22 +57,22 @@ fn element_of<T: Ordered>(entry: Entry<T>) -> T
 impl<T: Ordered, S: Stage> Run<T, S> {
     /// The window, which says what place a side is asked for.
     pub fn window(&self) -> Window
-        ensures { result ≡ self.now.progress.window }
+        ensures { result ≡ (progress_of_run self.now).window }
     {
         self.progress.window
     }
 
     /// Takes what a seat reports at the place that it is asked for.
     pub fn report(&mut self, side: Side, entry: Entry<T>) -> Result<(), RunFault>
-        ensures reports { Reports T.Ordered.before side entry self.old.progress result self.new.progress }
-        ensures same_stage { self.new.stage ≡ self.old.stage }
+        ensures reports { Reports T.Ordered.before side entry (progress_of_run self.old) result (progress_of_run self.new) }
+        ensures same_stage { stage_of_run self.new ≡ stage_of_run self.old }
     {
         self.progress.report(side, entry)
     }
 
     /// Ends the run with no result, and answers the number of verdicts made.
-    pub fn break_off(self, slip: Slip<OfPair>) -> u32
-        ensures { BreaksOff self.progress result }
+    pub fn break_off(self, slip: Slip<OfPair, T>) -> u32
+        ensures { BreaksOff (progress_of_run self) result }
     {
         slip.take_back(OfPair { made_here: () });
         self.progress.made
@@ -84,8 +85,8 @@ impl<T: Ordered> Run<T, Comparing> {
         self,
         referee: &mut R,
     ) -> Result<Advanced<T>, Refused<Run<T, Comparing>>>
-        ensures steps { Steps T.Ordered.before self (R.Referee.stock referee.old) result }
-        ensures asks { AsksOne R.Referee.stock R.Referee.spends referee.old referee.new (step_answer result) }
+        ensures steps { Steps T.Ordered.before self (R.Stocked.stock referee.old) result }
+        ensures asks { AsksOne R.Stocked.stock R.Referee.spends referee.old referee.new (step_answer result) }
     {
         match self.progress.ask_first(referee) {
             Ok(verdict) => Ok(Advanced {
@@ -102,20 +103,54 @@ impl<T: Ordered> Run<T, Closing> {
     pub fn finish<R: Referee<T>>(
         self,
         referee: &mut R,
-        slip: Slip<OfPair>,
-    ) -> Result<Finished<T>, Refused<(Run<T, Closing>, Slip<OfPair>)>>
-        ensures finishes { Finishes T.Ordered.before T.Ordered.sample self slip (R.Referee.stock referee.old) result }
-        ensures asks { AsksOne R.Referee.stock R.Referee.spends referee.old referee.new (finish_answer result) }
+        slip: Slip<OfPair, T>,
+    ) -> Result<Finished<OfPair, T>, Refused<(Run<T, Closing>, Slip<OfPair, T>)>>
+        ensures finishes { Finishes T.Ordered.before T.Ordered.sample self slip (R.Stocked.stock referee.old) result }
+        ensures asks { AsksOne R.Stocked.stock R.Referee.spends referee.old referee.new (finish_answer result) }
     {
         match self.progress.ask_lesser(referee) {
-            Ok(lesser) => Ok(Finished {
-                result: element_of(lesser),
-                count: self.break_off(slip),
-            }),
+            Ok(lesser) => Ok(Finished::issue(
+                OfPair { made_here: () },
+                element_of(lesser),
+                self.break_off(slip),
+            )),
             Err(fault) => Err(Refused {
                 fault,
                 given: (self, slip),
             }),
+        }
+    }
+}
+
+impl<T: Ordered> StagedRun<T> {
+    /// The window, as in each stage.
+    pub fn window(&self) -> Window
+        ensures { result ≡ (progress_of self.now).window }
+    {
+        match self {
+            StagedRun::Comparing(run) => run.window(),
+            StagedRun::Closing(run) => run.window(),
+        }
+    }
+
+    /// Takes a report, as in each stage, and stays in its own.
+    pub fn report(&mut self, side: Side, entry: Entry<T>) -> Result<(), RunFault>
+        ensures reports { Reports T.Ordered.before side entry (progress_of self.old) result (progress_of self.new) }
+        ensures same_stage { self.new ≡ with_progress (progress_of self.new) self.old }
+    {
+        match self {
+            StagedRun::Comparing(run) => run.report(side, entry),
+            StagedRun::Closing(run) => run.report(side, entry),
+        }
+    }
+
+    /// Ends the run with no result, as in each stage.
+    pub fn break_off(self, slip: Slip<OfPair, T>) -> u32
+        ensures { BreaksOff (progress_of self) result }
+    {
+        match self {
+            StagedRun::Comparing(run) => run.break_off(slip),
+            StagedRun::Closing(run) => run.break_off(slip),
         }
     }
 }

@@ -9,7 +9,7 @@ use referees::verdict::PairVerdict;
 
 /// The state of one seat: the declared length of its list, the bounds that its earlier reports leave it, and the
 /// entry that it has reported in this round, if it has.
-#[derive(Clone, Copy, Debug, PartialEq, Eq)]
+#[derive(Clone, Copy, PartialEq, Eq)]
 pub struct SeatState<T> {
     pub declared: u32,
     pub bounds: Bounds<T>,

@@ -17,11 +17,11 @@ pub use faults::fault_info::{FaultInfo, Layer};
 pub use faults::refusal::Refusal;
 pub use faults::seat::Seat;
 
-// Referees: the trait with what its questions take and answer, and the kinds of referees that there are.
+// Referees: the traits with what questions take and answer, and the kinds of referees that there are.
 pub use referees::operand::{EntryKind, Operand};
 pub use referees::plain::Plain;
 pub use referees::quota::Quota;
-pub use referees::referee::{Referee, out_of_stock};
+pub use referees::referee::{Referee, Stocked, out_of_stock};
 pub use referees::spare::Spare;
 pub use referees::strip::Strip;
 pub use referees::sums::Sums;
@@ -67,3 +67,4 @@ pub use sheets::summary::{AtRank, Highlights, Summary, summarize};
 // Requests: a rank and two sheets in one row of bytes, and the lines of what they come to.
 pub use requests::answer::answer as answer_request;
 pub use requests::outcome::RequestOutcome;
+pub use requests::request::{MOST_VERDICTS, most_delays};

@@ -1,7 +1,7 @@
 //! Plays questions against a pile of every kind of referee until it is empty, and prints each with what came of it.
 #![tactic(auto)]
 
-use rankunit::{Entry, Line, LinkLevel, PileNumbers, Question, Sums, play_on_pile};
+use rankunit::{Entry, Line, LinkLevel, PileNumbers, Question, Strip, Sums, play_on_pile};
 use std::io;
 
 fn level(level: i32, link: u32) -> Entry<LinkLevel> {
@@ -59,7 +59,7 @@ fn strip_words() -> [u64; 13] {
 }
 
 fn main(rt: HostRuntime) -> io::Result<()> {
-    let words = strip_words();
+    let mut words = strip_words();
     let numbers = PileNumbers {
         whole: 9,
         part: 4,
@@ -73,7 +73,7 @@ fn main(rt: HostRuntime) -> io::Result<()> {
         words.len()
     )?;
     let mut lines = questions().map(Line::new);
-    let tally = play_on_pile(numbers, &words, &mut lines);
+    let tally = play_on_pile(numbers, Strip::new(&mut words), &mut lines);
     for line in lines {
         println!(rt; "{line}")?;
     }

@@ -1,5 +1,5 @@
 -- One turn of a play.
-use Rattle.std.proofs.Common.{◌≡◌, ℕ, ◌+◌, ◌-◌, ◌<◌, ◌≤◌, Bool, true, false, cond, Some, Ok, Err, ltb, List, length, get_or, set, sym, refl, ap, ◌∙◌, inl, inr, arith, length-set, get_or-set_other, get_or-set_same}
+use Rattle.std.proofs.Common.{◌≡◌, ℕ, ◌+◌, ◌-◌, ◌<◌, ◌≤◌, Bool, true, false, cond, Option, Some, None, Result, Ok, Err, ltb, List, length, get_or, set, sym, refl, ap, ◌∙◌, subst, inl, inr, arith, length-set, get_or-set_other, get_or-set_same}
 use Rattle.std.proofs.lemmas.List.{get_or_default}
 use Rattle.std.proofs.lemmas.Bool.{cases_Bool, cases_eq, ltb-true, ltb-false, lt-ltb, le-ltb}
 use Rattle.faults.specs.declared.fault.RunFault.{RunFault}
@@ -8,7 +8,7 @@ use Rattle.elements.specs.Limits.{saturated}
 use Rattle.referees.specs.declared.play.Line.{Line}
 use Rattle.referees.specs.declared.question.Answer.{Answer}
 use Rattle.referees.specs.declared.question.Question.{Question}
-use Rattle.referees.specs.Plays.{line_at, answered_outcome}
+use Rattle.referees.specs.Plays.{line_at, answered_outcome, PaidFor, SpendsEach, one_more}
 use Rattle.referees.specs.Truths.{truth_of}
 
 -- the lines before i are played, and those from i on are as they were
@@ -67,3 +67,28 @@ module _ {E : Type 0} (before : E → E → Bool) where
 
   pub refused_from : (stock rest i : ℕ) (question : Question E) (line : Line E) → rest ≡ stock - i → line ≡ line_at before rest 0 question → false ≡ answered_outcome line.outcome → stock ≤ i
   refused_from stock rest i question line r e a = ltb-false i stock (sym (a ∙ flag_at stock rest i question line r e))
+
+module _ {R E : Type 0} (spends : R → R → Type 0) where
+  -- an answered line is paid for
+  paid_if_answered : (old new : R) (outcome : Option (Result (Answer E) RunFault)) → PaidFor spends old new outcome → true ≡ answered_outcome outcome → spends old new
+  paid_if_answered old new (Some (Ok answer)) paid is = paid
+  paid_if_answered old new (Some (Err fault)) paid is = absurd cc
+  paid_if_answered old new None paid is = absurd cc
+
+  -- any other line leaves the referee as it was
+  same_if_refused : (old new : R) (outcome : Option (Result (Answer E) RunFault)) → PaidFor spends old new outcome → false ≡ answered_outcome outcome → new ≡ old
+  same_if_refused old new (Some (Ok answer)) paid is = absurd cc
+  same_if_refused old new (Some (Err fault)) paid is = paid
+  same_if_refused old new None paid is = paid
+
+  -- an answered line is one more of the answered questions
+  pub spends_once_more : {start old new : R} {answered then : ℕ} (outcome : Option (Result (Answer E) RunFault)) → SpendsEach spends start answered old →
+      PaidFor spends old new outcome → true ≡ answered_outcome outcome → then ≡ answered + 1 → SpendsEach spends start then new
+  spends_once_more {start} {old} {new} {answered} {then} outcome each paid is one =
+      subst (λ (n : ℕ). SpendsEach spends start n new) (omega (arith, one)) (one_more each (paid_if_answered old new outcome paid is))
+
+  -- and any other is none of them
+  pub spends_no_more : {start old new : R} {answered then : ℕ} (outcome : Option (Result (Answer E) RunFault)) → SpendsEach spends start answered old →
+      PaidFor spends old new outcome → false ≡ answered_outcome outcome → then ≡ answered → SpendsEach spends start then new
+  spends_no_more {start} {old} {new} {answered} {then} outcome each paid is as_many =
+      subst (SpendsEach spends start then) (sym (same_if_refused old new outcome paid is)) (subst (λ (n : ℕ). SpendsEach spends start n old) (sym as_many) each)

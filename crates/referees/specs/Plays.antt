@@ -1,5 +1,5 @@
 -- Sequences of questions to one referee, written down line by line.
-use Rattle.std.specs.Prelude.{◌≡◌, ℕ, ◌+◌, ◌-◌, ◌<◌, min, Bool, true, false, cond, List, length, get_or, nat_lt, slice_index_or, Option, Some, None, Result, Ok, Err}
+use Rattle.std.specs.Prelude.{◌≡◌, ℕ, suc, ◌+◌, ◌-◌, ◌<◌, min, Bool, true, false, cond, List, length, get_or, nat_lt, slice_index_or, Option, Some, None, Result, Ok, Err}
 use Rattle.faults.specs.declared.fault.RunFault.{RunFault}
 use Rattle.referees.specs.Questions.{out_of_stock}
 use Rattle.elements.specs.Limits.{saturated}
@@ -31,6 +31,19 @@ pub record Played {E : Type 0} (before : E → E → Bool) (stock_before stock_a
   pub answered : tally.answered ≡ min stock_before (length old)
   pub one_each : stock_before ≡ stock_after + tally.answered
   pub left : tally.left ≡ saturated stock_after
+
+-- What became of a referee that was old and is new by a line with this outcome: an answered question is paid for as the
+-- referee says, and one that is refused leaves the referee as it was.
+abbrev pub PaidFor : {R E : Type 0} → (R → R → Type 0) → R → R → Option (Result (Answer E) RunFault) → Type 0
+PaidFor spends old new None = new ≡ old
+PaidFor spends old new (Some (Ok answer)) = spends old new
+PaidFor spends old new (Some (Err fault)) = new ≡ old
+
+-- From a referee that was old to what it is now, by so many answered questions and nothing else, each paid for as the referee
+-- says. So it is known of each question in its turn which part of a pile pays.
+pub data SpendsEach {R : Type 0} (spends : R → R → Type 0) (old : R) : (answered : ℕ) → (new : R) → Type 0 where
+  nothing_asked : SpendsEach spends old 0 old
+  one_more : {n : ℕ} {between new : R} → SpendsEach spends old n between → spends between new → SpendsEach spends old (suc n) new
 
 -- a play against a referee that is put together with a stock and is gone afterwards
 abbrev pub PlayedFrom : {E : Type 0} → (E → E → Bool) → ℕ → List (Line E) → List (Line E) → Tally → Type 0

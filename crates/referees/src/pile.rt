@@ -35,24 +35,25 @@ fn play_on_spare<T: Ordered, R: Referee<T> + Drop, S: Referee<T> + Drop>(
     spare: S,
     lines: &mut [Line<T>],
 ) -> Tally
-    ensures { PlayedFrom T.Ordered.before (min whole (R.Referee.stock main + S.Referee.stock spare)) lines.old lines.new result }
+    ensures { PlayedFrom T.Ordered.before (min whole (R.Stocked.stock main + S.Stocked.stock spare)) lines.old lines.new result }
 {
     play(&mut Quota::new(whole, Spare::new(main, spare)), lines)
 }
 
-/// Plays lines against a quota over a spare, whose first is a quota over a plain referee and whose second is a strip.
-pub fn play_on_pile<T: Placed>(numbers: PileNumbers, words: &[u64], lines: &mut [Line<T>]) -> Tally
-    ensures { PlayedFrom T.Ordered.before (pile_stock numbers words.now) lines.old lines.new result }
+/// Plays lines against a quota over a spare, whose first is a quota over a plain referee and whose second is a strip. The strip
+/// is gone after the call, as all of the pile is.
+pub fn play_on_pile<T: Placed>(numbers: PileNumbers, strip: Strip, lines: &mut [Line<T>]) -> Tally
+    ensures { PlayedFrom T.Ordered.before (pile_stock numbers strip.entry) lines.old lines.new result }
 {
-    play_on_spare(numbers.whole, part_of(numbers), Strip::new(words), lines)
+    play_on_spare(numbers.whole, part_of(numbers), strip, lines)
 }
 
 /// Plays lines against a quota over a spare, whose first is a strip and whose second is lent: a quota over a plain
 /// referee.
 #[tactic(auto, using(crate::proofs::Tallies::in_either_order))]
-pub fn play_on_loan<T: Placed>(numbers: PileNumbers, words: &[u64], lines: &mut [Line<T>]) -> Tally
-    ensures { PlayedFrom T.Ordered.before (pile_stock numbers words.now) lines.old lines.new result }
+pub fn play_on_loan<T: Placed>(numbers: PileNumbers, strip: Strip, lines: &mut [Line<T>]) -> Tally
+    ensures { PlayedFrom T.Ordered.before (pile_stock numbers strip.entry) lines.old lines.new result }
 {
     let mut lent = part_of(numbers);
-    play_on_spare(numbers.whole, Strip::new(words), &mut lent, lines)
+    play_on_spare(numbers.whole, strip, &mut lent, lines)
 }

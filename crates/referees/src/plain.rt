@@ -3,13 +3,14 @@ ghost use Rattle.referees.specs.Questions.{OneQuestion, AsksFirst, AsksLesser};
 ghost use Rattle.referees.specs.PlainStock.{FallsByOne, plain_stock};
 
 use crate::operand::Operand;
-use crate::referee::{Referee, out_of_stock};
+use crate::referee::{Referee, Stocked, out_of_stock};
 use crate::sums::Sums;
 use crate::verdict::{GroupVerdict, PairVerdict};
 use elements::entry::Entry;
 use elements::limits::saturated;
 use elements::ordered::Ordered;
 use faults::fault::RunFault;
+use std::marker::Model;
 
 /// A referee that counts its stock down.
 #[derive(Drop)]
@@ -17,9 +18,18 @@ pub struct Plain {
     stock: u64,
 }
 
+/// A contract sees its number.
+impl Model for Plain {
+    ghost use Rattle.std.specs.Prelude.{ℕ};
+
+    ghost Value = { ℕ };
+
+    ghost view = { λ referee. referee.stock };
+}
+
 impl Plain {
     pub fn new(stock: u64) -> Plain
-        ensures { plain_stock result ≡ stock }
+        ensures { result ≡ stock }
     {
         Plain { stock }
     }
@@ -33,9 +43,15 @@ impl Plain {
     }
 }
 
-impl<T: Ordered> Referee<T> for Plain {
+impl Stocked for Plain {
     ghost stock = { plain_stock };
 
+    fn left(&self) -> u32 {
+        saturated(self.stock)
+    }
+}
+
+impl<T: Ordered> Referee<T> for Plain {
     ghost spends = { FallsByOne };
 
     // Two questions, with answers of two types. Rattle cannot yet give them their trait's clauses, which name the order of `T`.
@@ -58,9 +74,5 @@ impl<T: Ordered> Referee<T> for Plain {
     fn weigh(&mut self, sums: Sums) -> Result<GroupVerdict, RunFault> {
         self.spend()?;
         Ok(GroupVerdict::on(sums))
-    }
-
-    fn left(&self) -> u32 {
-        saturated(self.stock)
     }
 }

@@ -1,5 +1,5 @@
 ghost use Rattle.std.specs.Prelude.{◌≡◌, ◌-◌};
-ghost use Rattle.referees.specs.Plays.{answered_outcome, new_line, line_at, Played};
+ghost use Rattle.referees.specs.Plays.{answered_outcome, new_line, line_at, Played, PaidFor, SpendsEach};
 ghost use Rattle.referees.specs.PlayPrinting.{line_text};
 
 use crate::question::{Answer, Question, ask};
@@ -62,9 +62,9 @@ impl<T: fmt::Display> fmt::Display for Line<T> {
 
 /// Asks a question and writes down what came of it.
 pub fn ask_line<T: Ordered, R: Referee<T>>(referee: &mut R, question: Question<T>) -> Line<T>
-    ensures line { result ≡ line_at T.Ordered.before (R.Referee.stock referee.old) 0 question }
-    ensures cost { R.Referee.stock referee.new ≡ R.Referee.stock referee.old - 1 }
-    ensures empty_stays { R.Referee.stock referee.old ≡ 0 → referee.new ≡ referee.old }
+    ensures line { result ≡ line_at T.Ordered.before (R.Stocked.stock referee.old) 0 question }
+    ensures cost { R.Stocked.stock referee.new ≡ R.Stocked.stock referee.old - 1 }
+    ensures spends { PaidFor R.Referee.spends referee.old referee.new result.outcome }
 {
     Line {
         question,
@@ -73,10 +73,12 @@ pub fn ask_line<T: Ordered, R: Referee<T>>(referee: &mut R, question: Question<T
     }
 }
 
-/// Asks the question of every line in turn, and writes what came of each into its line.
+/// Asks the question of every line in turn, and writes what came of each into its line. It is a call made of many: where a
+/// question is refused, the lines before it keep their answers, the referee stays as these have left it, and the play goes
+/// on to the next line.
 pub fn play<T: Ordered, R: Referee<T>>(referee: &mut R, lines: &mut [Line<T>]) -> Tally
-    ensures empty_stays { R.Referee.stock referee.old ≡ 0 → referee.new ≡ referee.old }
-    ensures played { Played T.Ordered.before (R.Referee.stock referee.old) (R.Referee.stock referee.new) lines.old lines.new result }
+    ensures played { Played T.Ordered.before (R.Stocked.stock referee.old) (R.Stocked.stock referee.new) lines.old lines.new result }
+    ensures spends { SpendsEach R.Referee.spends referee.old result.answered referee.new }
 {
     // Tried `filter` and `count` after the loop: the proof did not close.
     let mut answered = 0;

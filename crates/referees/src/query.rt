@@ -21,7 +21,7 @@ pub trait Query<T: Ordered>: Copy {
 
     /// Puts the question to a referee.
     fn ask<R: Referee<T>>(self, referee: &mut R) -> Result<Self::Answer, RunFault>
-        ensures answers { OneQuestion R.Referee.stock referee.old referee.new (truth self) result }
+        ensures answers { OneQuestion R.Stocked.stock referee.old referee.new (truth self) result }
         ensures spends { IfOk result (λ answer. R.Referee.spends referee.old referee.new) };
 }
 

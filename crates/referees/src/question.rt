@@ -32,7 +32,7 @@ pub fn ask<T: Ordered, R: Referee<T>>(
     referee: &mut R,
     question: Question<T>,
 ) -> Result<Answer<T>, RunFault>
-    ensures answers { OneQuestion R.Referee.stock referee.old referee.new (truth_of T.Ordered.before question) result }
+    ensures answers { OneQuestion R.Stocked.stock referee.old referee.new (truth_of T.Ordered.before question) result }
     ensures spends { IfOk result (λ answer. R.Referee.spends referee.old referee.new) }
 {
     // Each question has an answer of its own type, so one call cannot serve for the three.

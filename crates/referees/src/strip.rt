@@ -7,7 +7,7 @@ ghost use Rattle.referees.specs.Strips.{FirstTwo, TakesTwoWords, strip_stock};
 
 use crate::masks::Masks;
 use crate::operand::Operand;
-use crate::referee::{Referee, out_of_stock};
+use crate::referee::{Referee, Stocked, out_of_stock};
 use crate::sums::Sums;
 use crate::verdict::{GroupVerdict, PairVerdict};
 use elements::entry::Entry;
@@ -15,29 +15,48 @@ use elements::limits::saturated;
 use elements::ordered::Ordered;
 use elements::placed::Placed;
 use faults::fault::RunFault;
+use std::marker::Model;
+use std::mem;
 
-/// A referee that uses up a lent strip of words, two a question, and splits by them whatever it compares.
+/// A referee that uses up a strip of words, two a question, and splits by them whatever it compares. It has its words to
+/// itself while it lives. They are for one strip, once: another would split by them again, and no contract says what they are
+/// once the strip is gone.
 #[derive(Drop)]
 pub struct Strip<'a> {
-    words: &'a [u64],
+    words: &'a mut [u64],
+}
+
+/// A contract sees the list of its unused words.
+impl<'a> Model for Strip<'a> {
+    ghost use Rattle.std.specs.Prelude.{List, ℕ};
+
+    ghost Value = { List ℕ };
+
+    ghost view = { λ strip. strip.words.now };
 }
 
 impl<'a> Strip<'a> {
-    pub fn new(words: &'a [u64]) -> Strip<'a>
-        ensures { result.words.now ≡ words.now }
+    pub fn new(words: &'a mut [u64]) -> Strip<'a>
+        ensures { result ≡ words.old }
     {
         Strip { words }
     }
+}
 
-    /// Takes the first two of the unused words.
-    fn take_two(&mut self) -> Result<Masks, RunFault>
-        ensures { FirstTwo self.old self.new result }
-    {
-        let [first, second, rest @ ..] = self.words else {
-            return Err(out_of_stock());
-        };
-        self.words = rest;
-        Ok(Masks::new(*first, *second))
+// Not a method: a slice pattern gets no generated proof where the slice is a field of a struct with a model.
+/// Takes the first two of the unused words, and leaves the rest.
+fn take_two(unused: &mut &mut [u64]) -> Result<Masks, RunFault>
+    ensures { FirstTwo unused.old.now unused.new.now result }
+{
+    match mem::take(unused) {
+        [first, second, rest @ ..] => {
+            *unused = rest;
+            Ok(Masks::new(*first, *second))
+        }
+        too_few => {
+            *unused = too_few;
+            Err(out_of_stock())
+        }
     }
 }
 
@@ -74,9 +93,15 @@ fn weight_by_words(sums: Sums, words: Masks) -> GroupVerdict
     })
 }
 
-impl<'a, T: Placed> Referee<T> for Strip<'a> {
+impl<'a> Stocked for Strip<'a> {
     ghost stock = { strip_stock };
 
+    fn left(&self) -> u32 {
+        saturated(self.words.len() as u64 / 2)
+    }
+}
+
+impl<'a, T: Placed> Referee<T> for Strip<'a> {
     ghost spends = { TakesTwoWords };
 
     // Two questions, with answers of two types. Rattle cannot yet give them their trait's clauses, which name the order of `T`.
@@ -84,7 +109,7 @@ impl<'a, T: Placed> Referee<T> for Strip<'a> {
         ensures answers { AsksFirst T.Ordered.before strip_stock self.old self.new a b result }
         ensures spends { IfOk result (λ answer. TakesTwoWords self.old self.new) }
     {
-        let before = before_by_words(a, b, self.take_two()?);
+        let before = before_by_words(a, b, take_two(&mut self.words)?);
         Ok(PairVerdict::from(before))
     }
 
@@ -92,16 +117,12 @@ impl<'a, T: Placed> Referee<T> for Strip<'a> {
         ensures answers { AsksLesser T.Ordered.before strip_stock self.old self.new a b result }
         ensures spends { IfOk result (λ answer. TakesTwoWords self.old self.new) }
     {
-        let before = before_by_words(a, b, self.take_two()?);
+        let before = before_by_words(a, b, take_two(&mut self.words)?);
         let lesser = if before { a } else { b };
         Ok(lesser.entry())
     }
 
     fn weigh(&mut self, sums: Sums) -> Result<GroupVerdict, RunFault> {
-        Ok(weight_by_words(sums, self.take_two()?))
-    }
-
-    fn left(&self) -> u32 {
-        saturated(self.words.len() as u64 / 2)
+        Ok(weight_by_words(sums, take_two(&mut self.words)?))
     }
 }

@@ -1,2 +1,4 @@
 pub mod ReadLists
 pub mod RunsOfLists
+pub mod RoomFacts
+pub mod FewVerdicts

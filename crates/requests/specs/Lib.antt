@@ -1,3 +1,4 @@
 pub mod RequestLayout
 pub mod RequestAnswers
+pub mod Rooms
 pub mod Printing

@@ -11,11 +11,11 @@ use Rattle.faults.specs.declared.seat.Seat.TheVariants.{A, B}
 use Rattle.faults.specs.declared.fault.SheetFault.{SheetFault}
 use Rattle.faults.specs.declared.refusal.Refusal.{Refusal}
 use Rattle.faults.specs.declared.refusal.Refusal.TheVariants.{RankOutOfBounds}
-use Rattle.seats.specs.HonestRuns.{declared_lengths, Finds, KeepsRest}
-use Rattle.pair.specs.Bisection.{by_side}
+use Rattle.seats.specs.HonestRuns.{declared_lengths, Finds, noted}
+use Rattle.pair.specs.Bisection.{by_side, pair_verdicts}
 use Rattle.pair.specs.PairCalls.{opening_refusal}
 use Rattle.referees.specs.declared.verdict.PairVerdict.{PairVerdict}
-use Rattle.runs.specs.declared.finished.Finished.{Finished}
+use Rattle.runs.specs.Finishes.{Outcome}
 use Rattle.sheets.specs.Formats.{delay_format}
 use Rattle.sheets.specs.Readings.{Answers as SheetAnswers}
 use Rattle.requests.specs.RequestLayout.{rank_of, sheet_a, sheet_b}
@@ -36,22 +36,24 @@ pub record Memory : Type 0 where
   pub log : List PairVerdict
 
 -- What a request comes to, from the memory before to that after. The first that cannot be read or opened decides: the rank, A's
--- sheet, B's sheet, the run. Else the result is the element of the rank of both lists.
-module _ (bytes : List ℕ) (before after : Memory) (result : Result (Finished Delay) RunFault) where
-  -- both lists are at hand: the opening of a run is refused, or the element of the rank is found
+-- sheet, B's sheet, the run. Else the result is the element of the rank of both lists. What was read before a refusal stays read:
+-- A's list where B's sheet is refused, and both where the opening is.
+module _ (bytes : List ℕ) (before after : Memory) (result : Result (Outcome Delay) RunFault) where
+  -- both lists are at hand: the opening of a run is refused, and nothing is noted, or the element of the rank is found, and all of
+  -- the protocol's verdicts are noted
   abbrev pub Found : (a b : List Delay) → (opening : Option Refusal) → Type 0
   Found a b (Some refusal) = (result ≡ Err (Own refusal None)) × (after.log ≡ before.log)
   Found a b None =
-      (finished : Finished Delay) × (result ≡ Ok finished) × Finds delay_before (by_side a b) (rank_of bytes) after.log finished
-      × KeepsRest finished.count before.log after.log
+      (finished : Outcome Delay) × (result ≡ Ok finished) × Finds delay_before (by_side a b) (rank_of bytes) finished
+      × (after.log ≡ noted (pair_verdicts delay_before (rank_of bytes) (by_side a b)) before.log)
 
-  -- A's list is at hand, and B's sheet was read: it is refused, or its list begins the memory for B
+  -- A's list is at hand, and B's sheet was read: it is refused, and the memory for B is as it was, or its list begins that memory
   abbrev pub ReadB : (a : List Delay) → Result ℕ SeatFault → Type 0
   ReadB a (Err fault) = (result ≡ Err (OfSeat fault)) × (after.log ≡ before.log)
   ReadB a (Ok count) =
       let b = take count after.b in Found a b (opening_refusal (declared_lengths (by_side a b)) (rank_of bytes))
 
-  -- A's sheet was read: it is refused, and B's sheet is not looked at, or its list begins the memory for A
+  -- A's sheet was read: it is refused, all memory is as it was, and B's sheet is not looked at, or its list begins the memory for A
   abbrev pub ReadA : Result ℕ SeatFault → Type 0
   ReadA (Err fault) = (result ≡ Err (OfSeat fault)) × (after.b ≡ before.b) × (after.log ≡ before.log)
   ReadA (Ok count) = (read : Result ℕ SeatFault) × ReadsFor B (sheet_b bytes) before.b after.b read × ReadB (take count after.a) read

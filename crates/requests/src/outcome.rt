@@ -4,6 +4,7 @@ ghost use Rattle.requests.specs.Printing.{digits, outcome_lines};
 ghost use Rattle.std.specs.Prelude.{Some};
 
 use elements::delay::Delay;
+use pair::run::OfPair;
 use referees::verdict::PairVerdict;
 use runs::finished::Finished;
 use std::fmt;
@@ -13,7 +14,7 @@ use std::fmt;
 #[derive(Drop)]
 pub struct RequestOutcome<'a> {
     pub noted: &'a [PairVerdict],
-    pub finished: Finished<Delay>,
+    pub finished: Finished<OfPair, Delay>,
 }
 
 /// Writes verdicts as digits in a row.
@@ -31,7 +32,7 @@ impl<'a> fmt::Display for RequestOutcome<'a> {
     ghost output = { λ x. Some (outcome_lines x) };
 
     fn fmt<W: fmt::Write>(&self, f: &mut fmt::Formatter<W>) -> fmt::Result {
-        let Finished { result, count } = self.finished;
+        let (result, count) = (self.finished.result(), self.finished.count());
         write!(f, "verdicts ")?;
         if count == 0 {
             write!(f, "-")?;

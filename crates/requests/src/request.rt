@@ -1,5 +1,22 @@
 ghost use Rattle.std.specs.Prelude.{◌≡◌};
 ghost use Rattle.requests.specs.RequestLayout.{stated_end};
+ghost use Rattle.requests.specs.Rooms.{most_delays};
+
+use elements::delay::Delay;
+use sheets::sheet_element::SheetElement;
+
+/// Ahead of the elements of a request's first sheet stand the rank, of four bytes, and a header of six.
+const BYTES_AHEAD: usize = 4 + 6;
+
+/// How many delays at most either sheet has in a request of so many bytes.
+pub fn most_delays(bytes: usize) -> usize
+    ensures { result ≡ most_delays bytes }
+{
+    bytes.saturating_sub(BYTES_AHEAD) / Delay::BYTES_EACH
+}
+
+/// No request comes to more verdicts: an accepted rank is at most 2 * 65,536, which is 2^17.
+pub const MOST_VERDICTS: usize = 17;
 
 /// A request taken apart: the rank, and the bytes of A's sheet and of B's.
 #[derive(Drop)]

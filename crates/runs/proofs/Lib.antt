@@ -1,1 +1,2 @@
 pub mod LawfulAnswers
+pub mod Learning

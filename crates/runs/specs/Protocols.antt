@@ -10,6 +10,8 @@ pub record Protocol (S E V T R : Type 0) : Type 1 where
   pub name : S → Whose
   -- a seat's report with what is asked of it after these verdicts, the newest first
   pub report_at : S → List V → E → R
+  -- the rules by which a seat's report is judged, after these verdicts and these accepted reports of the seat, the newest first
+  pub KeepsRules : S → List V → List R → E → Type 0
   -- a list explains a seat's reports
   pub Explains : S → List R → List T → Type 0
   -- what an honest seat's list is, and its honest report after these verdicts, the newest first
@@ -26,5 +28,6 @@ pub record Protocol (S E V T R : Type 0) : Type 1 where
   -- it is promised
   pub Rebuilds : S → List T → T → List V → Type 0
   pub Rebuildable : Lists → Type 0
-  -- what is promised of the number of verdicts of a finished run
+  -- whether a finish asks a referee, and what is promised of the number of verdicts of a finished run
+  pub asks_at_finish : Bool
   pub VerdictCount : ℕ → Type 0

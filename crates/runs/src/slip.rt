@@ -1,35 +1,42 @@
 ghost use Rattle.std.specs.Prelude.{◌≡◌, true, false};
+ghost use Rattle.runs.specs.Slips.{spent};
 
 use std::marker::PhantomData;
 
-/// Handed out with a run. It may be dropped only when it is spent, and only the calls that end a run spend it: the kind `K`
-/// of a protocol's slips is a type that nobody else can make a value of.
-pub struct Slip<K> {
+/// Handed out with a run over elements of `T`. It may be dropped only when it is spent, and only the calls that end a run of the
+/// protocol with the key `K` spend it: the key is a type that nobody else can make a value of.
+pub struct Slip<K, T> {
     spent: bool,
-    kind: PhantomData<K>,
+    key: PhantomData<K>,
+    elements: PhantomData<T>,
 }
 
-impl<K> Drop for Slip<K> {
+impl<K, T> Drop for Slip<K, T> {
     fn drop(self)
-        requires { self.spent ≡ true }
+        requires { spent self ≡ true }
     {
-        let Slip { spent: _, kind: _ } = self;
+        let Slip {
+            spent: _,
+            key: _,
+            elements: _,
+        } = self;
     }
 }
 
-impl<K: Copy> Slip<K> {
+impl<K: Copy, T> Slip<K, T> {
     /// A slip to be taken back later.
-    pub fn issue(_kind: K) -> Slip<K>
-        ensures { result.spent ≡ false }
+    pub fn issue(_key: K) -> Slip<K, T>
+        ensures { spent result ≡ false }
     {
         Slip {
             spent: false,
-            kind: PhantomData,
+            key: PhantomData,
+            elements: PhantomData,
         }
     }
 
     /// Takes a slip back, and so lets it go.
-    pub fn take_back(mut self, _kind: K) {
+    pub fn take_back(mut self, _key: K) {
         self.spent = true;
     }
 }

@@ -7,7 +7,7 @@ mod sealed {
 pub trait Stage: Copy + sealed::Sealed {}
 
 /// The stage of a run that still makes verdicts. It steps.
-#[derive(Clone, Copy, Debug, PartialEq, Eq)]
+#[derive(Clone, Copy)]
 pub struct Comparing {}
 
 impl sealed::Sealed for Comparing {}
@@ -15,7 +15,7 @@ impl sealed::Sealed for Comparing {}
 impl Stage for Comparing {}
 
 /// The stage of a run that has made all its verdicts. It finishes.
-#[derive(Clone, Copy, Debug, PartialEq, Eq)]
+#[derive(Clone, Copy)]
 pub struct Closing {}
 
 impl sealed::Sealed for Closing {}

@@ -10,8 +10,8 @@ use Rattle.pair.specs.declared.side.Side.{Side}
 use Rattle.pair.specs.declared.side.Side.TheVariants.{A, B}
 use Rattle.pair.proofs.BisectionSteps.{both_sides}
 use Rattle.runs.specs.Traces.{reported, has_reported, EachIs}
-use Rattle.pair.specs.PairCalls.{Reports, progress_of, with_given}
-use Rattle.pair.specs.Histories.{PairTrace, going, report, with_progress}
+use Rattle.pair.specs.PairCalls.{Reports, progress_of, with_given, with_progress}
+use Rattle.pair.specs.Histories.{PairTrace, going, report}
 use Rattle.pair.specs.declared.progress.Progress.{Progress}
 use Rattle.pair.specs.declared.run.StagedRun.{StagedRun}
 use Rattle.pair.specs.declared.run.StagedRun.TheVariants.{Comparing, Closing}
@@ -69,10 +69,10 @@ module _ {T : Type 0} {before : T → T → Bool} {sample : T} {lists : Side →
     -- once that is accepted, every report of either seat is still honest
     reports_with : (side other : Side) →
         EachIs same_side (honest before (declared_lengths lists) k other (lists other)) other (reported side (entry_of side) (Ok tt) ∷ past)
-    reports_with A A = (λ same. entry_is_honest opened h A, h.reports A)
-    reports_with A B = (λ same. absurd cc, h.reports B)
-    reports_with B A = (λ same. absurd cc, h.reports A)
-    reports_with B B = (λ same. entry_is_honest opened h B, h.reports B)
+    reports_with A A = ((λ same. entry_is_honest opened h A, tt), h.reports A)
+    reports_with A B = ((λ same. absurd cc, tt), h.reports B)
+    reports_with B A = ((λ same. absurd cc, tt), h.reports A)
+    reports_with B B = ((λ same. entry_is_honest opened h B, tt), h.reports B)
 
     -- a seat's list is refused, or its report is accepted
     report_of_one : (side : Side) (answer : Result (Unit {0}) RunFault) (left : Progress T) → has_reported same_side side past ≡ false →

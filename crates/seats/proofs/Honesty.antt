@@ -6,11 +6,11 @@ use Rattle.pair.specs.Rows.{row, entry_at}
 use Rattle.pair.specs.declared.side.Side.{Side}
 use Rattle.runs.specs.HistoryLaw.{HistoryLaw, ExplainAll, Honest}
 use Rattle.runs.specs.Traces.{reported, verdicts, has_reported, EachIs}
-use Rattle.pair.specs.PairCalls.{Reports, IsOpened, opening_refusal, stage_of, progress_of}
-use Rattle.pair.specs.Histories.{History, Now, PairTrace, going, report, with_progress}
+use Rattle.pair.specs.PairCalls.{Reports, IsOpened, opening_refusal, stage_of, progress_of, with_progress}
+use Rattle.pair.specs.Histories.{History, Now, PairTrace, going, report}
 use Rattle.pair.specs.declared.progress.Progress.{Progress}
 use Rattle.pair.specs.declared.run.StagedRun.{StagedRun}
-use Rattle.pair.specs.PairHistoryLaw.{AsksNow}
+use Rattle.pair.specs.PairHistoryLaw.{ShowsNow}
 use Rattle.pair.specs.PairProtocol.{pair_protocol, same_side, honest}
 use Rattle.seats.specs.ListRefusals.{IsListRefusal}
 use Rattle.seats.specs.SeatReports.{row_entry}
@@ -26,7 +26,7 @@ module _ {T : Type 0} (before : T → T → Bool) (sample : T) (lists : Side →
     pub staged : start ≡ stage_of (progress_of start)
     pub is_opened : IsOpened (declared_lengths lists) k (progress_of start)
     pub lawful : (trace : PairTrace T) (now : Now T) → History before sample start trace now →
-        HistoryLaw (pair_protocol before (declared_lengths lists) k) trace × AsksNow k now trace
+        HistoryLaw (pair_protocol before (declared_lengths lists) k) trace × ShowsNow k now trace
 
   -- a history of that run, in which every accepted report is honest
   pub record HonestHistory (trace : PairTrace T) (now : Now T) : Type 0 where
@@ -58,8 +58,8 @@ module _ {T : Type 0} {before : T → T → Bool} {sample : T} {lists : Side →
       pub entry_is_honest :
           row_entry side (progress_of stage).window (lists side) ≡ honest before (declared_lengths lists) k side (lists side) (verdicts past)
       entry_is_honest =
-          let asks = (opened.lawful past (going stage) h.history).1 in
-          λ i. entry_at (row side (asks.rank i) (lists side)) (asks.places side i)
+          let shows = (opened.lawful past (going stage) h.history).1 in
+          λ i. entry_at (row side (shows.rank i) (lists side)) (shows.places side i)
 
       -- and so, by the law, the run accepts it, where the list is not refused and the seat has not reported yet
       pub honest_accepted : (answer : Result (Unit {0}) RunFault) (left : Progress T) → has_reported same_side side past ≡ false →
@@ -69,5 +69,5 @@ module _ {T : Type 0} {before : T → T → Bool} {sample : T} {lists : Side →
           let e = row_entry side (progress_of stage).window (lists side) in
           let next = report {stage = stage} side e answer left h.history r in
           let law = (opened.lawful (reported side e answer ∷ past) (going (with_progress left stage)) next).0 in
-          (law.reports_answered.0.in_turn (record { seated = tt; not_yet = not_yet })).honest_accepted (lists side) (honest_seat side unrefused h)
+          (law.events.0.in_turn (record { seated = tt; not_yet = not_yet })).honest_accepted (lists side) (honest_seat side unrefused h)
           entry_is_honest

@@ -13,3 +13,4 @@ pub mod Verdicts
 pub mod Results
 pub mod Faults
 pub mod NotedVerdicts
+pub mod AskedInTurn

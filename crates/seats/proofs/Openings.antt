@@ -2,7 +2,6 @@
 use Rattle.std.proofs.Common.{◌≡◌, ℕ, Bool, List, length, Ok, Err, ap, sym, ◌∙◌, subst}
 use Rattle.elements.specs.Orders.{IsOrder}
 use Rattle.faults.specs.declared.fault.RunFault.{RunFault}
-use Rattle.referees.specs.declared.verdict.PairVerdict.{PairVerdict}
 use Rattle.pair.specs.Bisection.{OfSides, by_side}
 use Rattle.pair.specs.declared.side.Side.{Side}
 use Rattle.pair.specs.declared.side.Side.TheVariants.{A, B}
@@ -24,7 +23,7 @@ module _ {T : Type 0} (lists : Side → List T) (a b : ℕ) (a_is : a ≡ satura
 
   module _ {before : T → T → Bool} (k : ℕ) where
     -- an accepted opening hands out a run that keeps the law
-    pub run_opened : IsOrder before → {sample : T} (stage : StagedRun T) (slip : Slip OfPair) → Opens (by_side a b) k (Ok (stage, slip)) →
+    pub run_opened : IsOrder before → {sample : T} (stage : StagedRun T) (slip : Slip OfPair T) → Opens (by_side a b) k (Ok (stage, slip)) →
         HistoriesKeepLaw before sample (by_side a b) k (Ok (stage, slip)) → Opened before sample lists k stage
     run_opened order {sample = sample} stage slip opens lawful =
         let declares = subst (λ (d : OfSides). Opens d k (Ok (stage, slip))) as_declared opens in
@@ -37,8 +36,8 @@ module _ {T : Type 0} (lists : Side → List T) (a b : ℕ) (a_is : a ≡ satura
         }
 
     -- a refused one ends the play as is promised
-    pub play_unopened : IsOrder before → (stock : ℕ) (log : List PairVerdict) (fault : RunFault) →
-        Opens {T = T} (by_side a b) k (Err fault) → IsHonestRun before lists k stock stock log (Err fault)
-    play_unopened order stock log fault (refusal, refused, is) =
-        subst (λ (f : RunFault). IsHonestRun before lists k stock stock log (Err f)) (sym is)
-        (comes_unopened order lists k stock log refusal (ap (λ (d : OfSides). opening_refusal d k) (sym as_declared) ∙ refused))
+    pub play_unopened : IsOrder before → (stock : ℕ) (fault : RunFault) →
+        Opens {T = T} (by_side a b) k (Err fault) → IsHonestRun before lists k stock stock (Err fault)
+    play_unopened order stock fault (refusal, refused, is) =
+        subst (λ (f : RunFault). IsHonestRun before lists k stock stock (Err f)) (sym is)
+        (comes_unopened order lists k stock refusal (ap (λ (d : OfSides). opening_refusal d k) (sym as_declared) ∙ refused))

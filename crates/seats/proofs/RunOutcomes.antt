@@ -9,11 +9,10 @@ use Rattle.faults.specs.declared.fault.SeatFault.TheVariants.{Own as OwnSeat}
 use Rattle.faults.specs.declared.seat.Seat.TheVariants as Seats
 use Rattle.faults.specs.declared.refusal.Refusal.{Refusal}
 use Rattle.referees.specs.Questions.{out_of_stock}
-use Rattle.referees.specs.declared.verdict.PairVerdict.{PairVerdict}
 use Rattle.pair.specs.declared.side.Side.{Side}
 use Rattle.pair.specs.declared.side.Side.TheVariants.{A, B}
 use Rattle.runs.specs.Answers.{question_answer}
-use Rattle.runs.specs.declared.finished.Finished.{Finished}
+use Rattle.runs.specs.Finishes.{Outcome}
 use Rattle.pair.specs.PairCalls.{opening_refusal, both_reports, with_given}
 use Rattle.pair.specs.declared.progress.Progress.{Progress}
 use Rattle.seats.specs.ListRefusals.{IsListRefusal}
@@ -21,26 +20,26 @@ use Rattle.seats.specs.HonestRuns.{declared_lengths, IsRunOutcome, FindsBy, IsHo
 use Rattle.seats.proofs.Refusals.{refusal_of}
 use Rattle.seats.proofs.HonestReports.{RefusesOne}
 
-module _ {T : Type 0} {before : T → T → Bool} (o : IsOrder before) (lists : Side → List T) (k stock : ℕ) (log : List PairVerdict) where
+module _ {T : Type 0} {before : T → T → Bool} (o : IsOrder before) (lists : Side → List T) (k stock : ℕ) where
   -- a play that is not opened is refused as the opening is
   pub comes_unopened : (refusal : Refusal) → opening_refusal (declared_lengths lists) k ≡ Some refusal →
-      IsHonestRun before lists k stock stock log (Err (Own refusal None))
+      IsHonestRun before lists k stock stock (Err (Own refusal None))
   comes_unopened refusal e =
       let a = refusal_of before (lists A) o in
       let b = refusal_of before (lists B) o in
-      let come = λ (opening : Option Refusal). IsRunOutcome before lists k opening a.0 b.0 stock stock log (Err (Own refusal None)) in
+      let come = λ (opening : Option Refusal). IsRunOutcome before lists k opening a.0 b.0 stock stock (Err (Own refusal None)) in
       (a.0, a.1, (b.0, b.1, subst come (sym e) (refl, refl)))
 
   -- one that is opened comes to what is to be said of its lists and the stock
   comes_opened : opening_refusal (declared_lengths lists) k ≡ None → (of_a of_b : Option Refusal) → IsListRefusal before (lists A) of_a →
-      IsListRefusal before (lists B) of_b → (left : ℕ) (result : Result (Finished T) RunFault) →
-      IsRunOutcome before lists k None of_a of_b stock left log result → IsHonestRun before lists k stock left log result
+      IsListRefusal before (lists B) of_b → (left : ℕ) (result : Result (Outcome T) RunFault) →
+      IsRunOutcome before lists k None of_a of_b stock left result → IsHonestRun before lists k stock left result
   comes_opened e of_a of_b a b left result come =
-      (of_a, a, (of_b, b, subst (λ (opening : Option Refusal). IsRunOutcome before lists k opening of_a of_b stock left log result) (sym e) come))
+      (of_a, a, (of_b, b, subst (λ (opening : Option Refusal). IsRunOutcome before lists k opening of_a of_b stock left result) (sym e) come))
 
   module _ (allowed : opening_refusal (declared_lengths lists) k ≡ None) where
     -- with a refused list it is refused as the first such list is, and nothing is asked
-    pub comes_refused : (fault : RunFault) → RefusesOne before lists (Err fault) → IsHonestRun before lists k stock stock log (Err fault)
+    pub comes_refused : (fault : RunFault) → RefusesOne before lists (Err fault) → IsHonestRun before lists k stock stock (Err fault)
     comes_refused fault (inl a) =
         let b = refusal_of before (lists B) o in
         let is : fault ≡ OfSeat (OwnSeat a.0 (Some Seats.A)) = cc in
@@ -50,8 +49,8 @@ module _ {T : Type 0} {before : T → T → Bool} (o : IsOrder before) (lists : 
         comes_opened allowed None (Some b.0) unrefused b.1 stock (Err fault) (ap Err is, refl)
 
     -- with none it comes to what the stock allows
-    pub comes_unrefused : ((side : Side) → IsListRefusal before (lists side) None) → (left : ℕ) (result : Result (Finished T) RunFault) →
-        FindsBy before lists k stock left log result → IsHonestRun before lists k stock left log result
+    pub comes_unrefused : ((side : Side) → IsListRefusal before (lists side) None) → (left : ℕ) (result : Result (Outcome T) RunFault) →
+        FindsBy before lists k stock left result → IsHonestRun before lists k stock left result
     comes_unrefused unrefused left result come = comes_opened allowed None None (unrefused A) (unrefused B) left result come
 
 module _ {T Y : Type 0} (truth : Entry T × Entry T → Y) where

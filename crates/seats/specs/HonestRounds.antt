@@ -9,7 +9,7 @@ use Rattle.pair.specs.Sides.{seat_of}
 use Rattle.pair.specs.declared.side.Side.{Side}
 use Rattle.pair.specs.declared.side.Side.TheVariants.{A, B}
 use Rattle.runs.specs.declared.slip.Slip.{Slip}
-use Rattle.pair.specs.PairCalls.{Stepped, Ending, Reports, Steps, Finishes}
+use Rattle.pair.specs.PairCalls.{Stepped, Ending, Reports, Steps, Finishes, progress_of_run, run_at}
 use Rattle.pair.specs.declared.progress.Progress.{Progress}
 use Rattle.runs.specs.declared.stage.Closing.{Closing}
 use Rattle.runs.specs.declared.stage.Comparing.{Comparing}
@@ -48,17 +48,17 @@ module _ {T : Type 0} (before : T → T → Bool) where
   -- a round of a comparing run
   abbrev pub Compares : (Side → List T) → Run T Comparing → (stock : ℕ) → Stepped T → Type 0
   Compares lists run stock result =
-      (progress : Progress T) × (reported : Result (Unit {0}) RunFault) × ReportsBoth lists run.progress reported progress
-      × StepsBy reported (record { progress = progress; stage = record {} }) stock result
+      (progress : Progress T) × (reported : Result (Unit {0}) RunFault) × ReportsBoth lists (progress_of_run run) reported progress
+      × StepsBy reported (run_at progress (record {})) stock result
 
   -- once both reports are accepted, the run finishes
-  abbrev pub FinishesBy : (reported : Result (Unit {0}) RunFault) → (sample : T) → Run T Closing → Slip OfPair → (stock : ℕ) →
+  abbrev pub FinishesBy : (reported : Result (Unit {0}) RunFault) → (sample : T) → Run T Closing → Slip OfPair T → (stock : ℕ) →
       Ending T → Type 0
   FinishesBy (Ok u) sample run slip stock result = Finishes before sample run slip stock result
   FinishesBy (Err fault) sample run slip stock result = result ≡ Err (record { fault = fault; given = (run, slip) })
 
   -- the last round, of a closing run
-  abbrev pub Closes : (sample : T) → (Side → List T) → Run T Closing → Slip OfPair → (stock : ℕ) → Ending T → Type 0
+  abbrev pub Closes : (sample : T) → (Side → List T) → Run T Closing → Slip OfPair T → (stock : ℕ) → Ending T → Type 0
   Closes sample lists run slip stock result =
-      (progress : Progress T) × (reported : Result (Unit {0}) RunFault) × ReportsBoth lists run.progress reported progress
-      × FinishesBy reported sample (record { progress = progress; stage = record {} }) slip stock result
+      (progress : Progress T) × (reported : Result (Unit {0}) RunFault) × ReportsBoth lists (progress_of_run run) reported progress
+      × FinishesBy reported sample (run_at progress (record {})) slip stock result

@@ -27,7 +27,7 @@ module _ {T : Type 0} (before : T → T → Bool) (sample : T) (declared : OfSid
 
 abbrev pub PairSeatsAreHonest : {T : Type 0} → (T → T → Bool) → T → Type 0
 PairSeatsAreHonest {T} before sample =
-    (declared : OfSides) (rank : ℕ) (opened : StagedRun T × Slip OfPair) → HistoriesKeepLaw before sample declared rank (Ok opened) →
+    (declared : OfSides) (rank : ℕ) (opened : StagedRun T × Slip OfPair T) → HistoriesKeepLaw before sample declared rank (Ok opened) →
     (trace : PairTrace T) (stage : StagedRun T) → History before sample opened.0 trace (going stage) →
     (side : Side) (xs : List T) (entry : Entry T) → PairReport before side (progress_of stage).window xs (Ok entry) →
     SeatIsHonest before sample declared rank trace stage side xs entry

@@ -2,10 +2,10 @@ ghost use Rattle.seats.specs.ListRefusals.{IsGroupRefusal, IsOutside};
 ghost use Rattle.seats.specs.SeatReports.{GroupReport, counts_at};
 ghost use Rattle.std.specs.Prelude.{◌≡◌, ◌≤◌, length, map};
 ghost use Rattle.elements.specs.Limits.{longest_list};
+ghost use Rattle.group.specs.GroupCalls.{progress_of_run, limits_of, range_of};
 ghost use Rattle.group.specs.SeatCounts.{below, above};
 
 use crate::list::list_refusal;
-use elements::limits::saturated;
 use elements::placed::Placed;
 use faults::fault::SeatFault;
 use faults::refusal::Refusal;
@@ -23,7 +23,7 @@ fn refusal<T: Placed>(list: &[T], limits: Range) -> Option<Refusal>
         return Some(refusal);
     }
     let number = first_outside(list, limits)?;
-    Some(Refusal::OutsideRange(saturated(number as u64)))
+    Some(Refusal::OutsideRange(number as u64))
 }
 
 /// The honest report of a seat's list at the target that a run asks for: how many places are below it, and how many above.
@@ -32,7 +32,7 @@ pub fn report_of_group<T: Placed>(
     run: &Run<T, Comparing>,
     number: u32,
 ) -> Result<Counts, SeatFault>
-    ensures { GroupReport T.Ordered.before T.Placed.place run.now.progress.limits run.now.progress.range number list.now result }
+    ensures { GroupReport T.Ordered.before T.Placed.place (limits_of (progress_of_run run.now)) (range_of (progress_of_run run.now)) number list.now result }
 {
     match refusal(list, run.limits()) {
         Some(refusal) => Err(SeatFault::Own(refusal, Some(Seat::Numbered(number)))),

@@ -1,10 +1,11 @@
-ghost use Rattle.std.specs.Prelude.{◌≡◌, length, slice_set};
+ghost use Rattle.std.specs.Prelude.{◌≡◌, ◌-◌, length, slice_set};
 ghost use Rattle.seats.specs.HonestRuns.{NotesVerdicts, IsHonestRun};
+ghost use Rattle.referees.specs.Plays.{SpendsEach};
 ghost use Rattle.elements.specs.Limits.{saturated};
 ghost use Rattle.pair.specs.Bisection.{by_side};
 ghost use Rattle.seats.specs.HonestRounds.{ReportsOne, ReportsBoth, Compares, Closes};
 ghost use Rattle.runs.specs.Answers.{AsksOne};
-ghost use Rattle.pair.specs.PairCalls.{step_answer, finish_answer};
+ghost use Rattle.pair.specs.PairCalls.{step_answer, finish_answer, progress_of_run};
 
 use crate::pair_seat::report_of_pair;
 use elements::limits::saturated;
@@ -28,17 +29,20 @@ fn declared<T>(list: &[T]) -> u32
 }
 
 /// Finds the element of a rank of two lists, by the run of a pair and the calls of its seats, and notes the verdicts from the
-/// log's start.
+/// log's start, as far as it has room.
+///
+/// What was done before a refusal stays done. An opening or a list that is refused has asked nothing and noted nothing; where the
+/// stock ran out, each question before gave a verdict, and these are noted.
 pub fn find_rank<T: Ordered, R: Referee<T>>(
     a: &[T],
     b: &[T],
     rank: u32,
     referee: &mut R,
     log: &mut [PairVerdict],
-) -> Result<Finished<T>, RunFault>
-    ensures plays { IsHonestRun T.Ordered.before (by_side a.now b.now) rank (R.Referee.stock referee.old) (R.Referee.stock referee.new) log.new result }
-    ensures notes { NotesVerdicts (R.Referee.stock referee.old) (R.Referee.stock referee.new) log.old log.new result }
-    ensures untouched { R.Referee.stock referee.new ≡ R.Referee.stock referee.old → referee.new ≡ referee.old }
+) -> Result<Finished<OfPair, T>, RunFault>
+    ensures plays { IsHonestRun T.Ordered.before (by_side a.now b.now) rank (R.Stocked.stock referee.old) (R.Stocked.stock referee.new) result }
+    ensures notes { NotesVerdicts T.Ordered.before (by_side a.now b.now) rank (R.Stocked.stock referee.old) (R.Stocked.stock referee.new) log.old log.new result }
+    ensures asks { SpendsEach R.Referee.spends referee.old (R.Stocked.stock referee.old - R.Stocked.stock referee.new) referee.new }
 {
     let (mut stage, slip) = open(declared(a), declared(b), rank)?;
     let mut made = 0;
@@ -79,7 +83,7 @@ fn report_one<T: Ordered, S: Stage>(
     side: Side,
     list: &[T],
 ) -> Result<(), RunFault>
-    ensures { ReportsOne T.Ordered.before side list.now run.old.progress result run.new.progress }
+    ensures { ReportsOne T.Ordered.before side list.now (progress_of_run run.old) result (progress_of_run run.new) }
 {
     let entry = report_of_pair(list, run, side)?;
     run.report(side, entry)
@@ -87,7 +91,7 @@ fn report_one<T: Ordered, S: Stage>(
 
 /// Lets both seats report, A first.
 fn report_both<T: Ordered, S: Stage>(run: &mut Run<T, S>, a: &[T], b: &[T]) -> Result<(), RunFault>
-    ensures { ReportsBoth T.Ordered.before (by_side a.now b.now) run.old.progress result run.new.progress }
+    ensures { ReportsBoth T.Ordered.before (by_side a.now b.now) (progress_of_run run.old) result (progress_of_run run.new) }
 {
     report_one(run, Side::A, a)?;
     report_one(run, Side::B, b)
@@ -100,8 +104,8 @@ fn compare<T: Ordered, R: Referee<T>>(
     b: &[T],
     referee: &mut R,
 ) -> Result<Advanced<T>, Refused<Run<T, Comparing>>>
-    ensures round { Compares T.Ordered.before (by_side a.now b.now) run (R.Referee.stock referee.old) result }
-    ensures asks { AsksOne R.Referee.stock R.Referee.spends referee.old referee.new (step_answer result) }
+    ensures round { Compares T.Ordered.before (by_side a.now b.now) run (R.Stocked.stock referee.old) result }
+    ensures asks { AsksOne R.Stocked.stock R.Referee.spends referee.old referee.new (step_answer result) }
 {
     match report_both(&mut run, a, b) {
         Ok(()) => run.step(referee),
@@ -112,13 +116,13 @@ fn compare<T: Ordered, R: Referee<T>>(
 /// The last round, of a closing run: both seats report, and the referee is asked for the result.
 fn close<T: Ordered, R: Referee<T>>(
     mut run: Run<T, Closing>,
-    slip: Slip<OfPair>,
+    slip: Slip<OfPair, T>,
     a: &[T],
     b: &[T],
     referee: &mut R,
-) -> Result<Finished<T>, Refused<(Run<T, Closing>, Slip<OfPair>)>>
-    ensures round { Closes T.Ordered.before T.Ordered.sample (by_side a.now b.now) run slip (R.Referee.stock referee.old) result }
-    ensures asks { AsksOne R.Referee.stock R.Referee.spends referee.old referee.new (finish_answer result) }
+) -> Result<Finished<OfPair, T>, Refused<(Run<T, Closing>, Slip<OfPair, T>)>>
+    ensures round { Closes T.Ordered.before T.Ordered.sample (by_side a.now b.now) run slip (R.Stocked.stock referee.old) result }
+    ensures asks { AsksOne R.Stocked.stock R.Referee.spends referee.old referee.new (finish_answer result) }
 {
     match report_both(&mut run, a, b) {
         Ok(()) => run.finish(referee, slip),

@@ -1,7 +1,7 @@
 ghost use Rattle.std.specs.Prelude.{◌≡◌};
 ghost use Rattle.seats.specs.ListRefusals.{too_long, IsListRefusal};
 
-use elements::limits::{LONGEST_LIST, saturated};
+use elements::limits::LONGEST_LIST;
 use elements::list::first_fall;
 use elements::ordered::Ordered;
 use faults::refusal::Refusal;
@@ -18,7 +18,7 @@ pub(crate) fn list_refusal<T: Ordered>(list: &[T]) -> Option<Refusal>
     ensures { IsListRefusal T.Ordered.before list.now result }
 {
     if let Some(number) = first_fall(list) {
-        return Some(Refusal::OutOfOrder(saturated(number as u64)));
+        return Some(Refusal::OutOfOrder(number as u64));
     }
     if is_too_long(list) {
         return Some(Refusal::ListTooLong);

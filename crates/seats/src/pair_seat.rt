@@ -1,5 +1,6 @@
 ghost use Rattle.std.specs.Prelude.{◌≡◌, ◌≤◌, length};
 ghost use Rattle.elements.specs.Limits.{longest_list};
+ghost use Rattle.pair.specs.PairCalls.{progress_of_run};
 ghost use Rattle.seats.specs.SeatReports.{row_entry, PairReport};
 
 use crate::list::list_refusal;
@@ -31,7 +32,7 @@ pub fn report_of_pair<T: Ordered, S: Stage>(
     run: &Run<T, S>,
     side: Side,
 ) -> Result<Entry<T>, SeatFault>
-    ensures { PairReport T.Ordered.before side run.now.progress.window list.now result }
+    ensures { PairReport T.Ordered.before side (progress_of_run run.now).window list.now result }
 {
     match list_refusal(list) {
         Some(refusal) => Err(SeatFault::Own(refusal, Some(side.into()))),

@@ -1,22 +1,18 @@
 //! Reads one sheet from standard input and prints what is in it, or why it is refused.
+//!
+//! A sheet of up to 67,108,864 bytes is read whole and answered as the reader answers it. Of a longer input it prints one line,
+//! `too long: over 67108864 bytes`, and reads no more of it. The status is 0 in each of these cases, and 1 where memory is
+//! wanting, or where input or output fails.
 #![tactic(auto)]
 
-use rankunit::{Delay, LONGEST_LIST, LinkLevel, Ordered, SheetElement, check_sheet};
-use std::io::Read;
+mod answer;
+#[cfg(test)]
+mod tests;
 
-/// One byte more than the longest sheet has, so that a longer one is seen to be too long: a header of 6 bytes, and
-/// 65,536 elements.
-const MOST_BYTES: u64 = 6 + (LONGEST_LIST as usize * LinkLevel::BYTES_EACH) as u64 + 1;
+use crate::answer::answer_input;
 
 fn main(rt: HostRuntime) -> anyhow::Result<()> {
-    let heap = rt.alloc();
-    let mut bytes = Vec::new(heap);
-    rt.stdin().take(MOST_BYTES).read_to_end(&mut bytes)?;
-    let mut delays = vec![in heap; Delay::sample(); LONGEST_LIST as usize]?;
-    let mut levels = vec![in heap; LinkLevel::sample(); LONGEST_LIST as usize]?;
-    match check_sheet(&bytes, &mut delays, &mut levels) {
-        Ok(summary) => println!(rt; "{summary}")?,
-        Err(fault) => println!(rt; "{fault}")?,
-    }
+    let answer = answer_input(rt.alloc(), rt.stdin())?;
+    println!(rt; "{answer}")?;
     Ok(())
 }

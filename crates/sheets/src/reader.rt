@@ -3,7 +3,6 @@ ghost use Rattle.sheets.specs.Readings.{with_seat, Reads, Answers, ReaderLaw};
 
 use crate::header::check_header;
 use crate::sheet_element::SheetElement;
-use elements::limits::saturated;
 use faults::fault::SheetFault;
 use faults::refusal::Refusal;
 use faults::seat::Seat;
@@ -14,7 +13,7 @@ fn read_list<T: SheetElement>(bytes: &[u8], list: &mut [T]) -> Result<usize, Ref
 {
     let body = check_header::<T>(bytes)?;
     if let Some(number) = body.first_fall() {
-        return Err(Refusal::OutOfOrder(saturated(number as u64)));
+        return Err(Refusal::OutOfOrder(number as u64));
     }
     if list.len() < body.len() {
         return Err(Refusal::SliceTooShort);

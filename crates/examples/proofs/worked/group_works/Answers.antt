@@ -32,5 +32,5 @@ returns c = record {
         (passed 9 9 (known 2 1 0) (counts 1 0) refl, (passed 9 9 (known 1 1 0) (counts 1 0) refl, (passed 9 9 (known 2 0 1) (counts 0 1) refl, tt))) refl)));
   };
   tables = record { taken_in_turns = refl; totals = refl; saturated = refl };
-  rules = record { standing = refl; honest = refl; at_edge = refl; would_be_lower = refl; would_end_at = refl; too_many = refl; at_other_edge = refl; would_be_higher = refl; would_begin_at = refl; too_few_below = refl; too_few_above = refl };
+  rules = record { range_by_verdicts = refl; known_by_reports = refl; standing = refl; honest = refl; at_edge = refl; would_be_lower = refl; would_end_at = refl; too_many = refl; at_other_edge = refl; would_be_higher = refl; would_begin_at = refl; too_few_below = refl; too_few_above = refl };
 }

@@ -1,7 +1,11 @@
-use Rattle.std.proofs.Common.{◌∙◌, arith}
-use Rattle.referees.proofs.Turns.{turn, answered_below, refused_from}
+use Rattle.std.proofs.Common.{arith, rules}
+use Rattle.referees.specs.Plays.{nothing_asked}
+use Rattle.referees.proofs.Turns.{turn, answered_below, refused_from, spends_once_more, spends_no_more}
 use Rattle.referees.proofs.play.play.Goals as goal
 use Rattle.referees.proofs.play.play.Goals.{then-is_answered, else-is_answered}
+
+pub loop-line-init : goal.loop-line-init
+loop-line-init g c = record { played = search rules; answered = search rules; paid = search rules; spends = nothing_asked }
 
 pub loop-line-preserved : goal.loop-line-preserved
 loop-line-preserved g c =
@@ -13,5 +17,8 @@ loop-line-preserved g c =
         | else-is_answered w ↦ omega (arith, refused_from _ _ _ _ _ _ inv.paid line w.if-is_answered.ensures, w.answered-is, inv.answered)
       ];
       paid = omega (arith, inv.paid, c.ask_line.ensures.cost);
-      empty_stays = λ e. c.ask_line.ensures.empty_stays (omega (arith, inv.paid)) ∙ inv.empty_stays e;
+      spends = elim c.if-is_answered.branch [
+        | then-is_answered w ↦ spends_once_more _ _ inv.spends c.ask_line.ensures.spends w.if-is_answered.ensures w.answered-is
+        | else-is_answered w ↦ spends_no_more _ _ inv.spends c.ask_line.ensures.spends w.if-is_answered.ensures w.answered-is
+      ];
     }

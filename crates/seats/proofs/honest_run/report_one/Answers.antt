@@ -3,7 +3,7 @@ use Rattle.std.proofs.Common.{◌≡◌, Bool, List, None, Some, Ok, Result, sub
 use Rattle.elements.specs.declared.entry.Entry.{Entry}
 use Rattle.faults.specs.declared.fault.RunFault.{RunFault}
 use Rattle.pair.specs.declared.side.Side.{Side}
-use Rattle.pair.specs.PairCalls.{Reports}
+use Rattle.pair.specs.PairCalls.{Reports, progress_of_run}
 use Rattle.pair.specs.declared.progress.Progress.{Progress}
 use Rattle.seats.specs.SeatReports.{PairReport, row_entry}
 use Rattle.seats.specs.HonestRounds.{ReportsOne}
@@ -20,5 +20,5 @@ entry_reported {T = T} before side xs old new entry answer (None, is, e) r =
 
 pub returns : goal.returns
 returns g c =
-    entry_reported g.T.Ordered.before c.args.side c.args.list.now c.args.run.now.progress c.report.new.self.progress c.in_ok-entry.entry
+    entry_reported g.T.Ordered.before c.args.side c.args.list.now (progress_of_run c.args.run.now) (progress_of_run c.report.new.self) c.in_ok-entry.entry
     c.report.result c.in_ok-entry.ensures c.report.ensures.reports
