@@ -3,8 +3,9 @@ use Rattle.std.specs.Prelude.{◌≡◌, ℕ, ◌+◌, ◌-◌, ◌*◌, ◌/◌
 use Rattle.std.proofs.Common.{sym, ap, ◌∙◌, arith}
 use Rattle.std.proofs.lemmas.Bool.Decides.{nat_tests}
 use Rattle.std.proofs.lemmas.Int.{ints}
+use Rattle.std.specs.Ordering.{nat_cmp}
 use Rattle.elements.specs.Orders.{PlacesAgree, OneElementEach}
-use Rattle.elements.specs.LinkLevels.{level_before, level_place}
+use Rattle.elements.specs.LinkLevels.{level_before, level_cmp, level_place}
 use Rattle.elements.specs.declared.link_level.LinkLevel.{LinkLevel}
 use Rattle.elements.specs.Alike.{made, level_alike}
 
@@ -15,6 +16,10 @@ raised x = let l = x.low in let h = x.high in (omega (arith, ints), omega (arith
 -- the order is that of the places
 pub level_agrees : PlacesAgree level_before level_place
 level_agrees x y = let a = raised x in let b = raised y in grind (arith, ints, nat_tests)
+
+-- places compare as link levels do
+pub places_compare : (x y : LinkLevel) → nat_cmp (level_place x) (level_place y) ≡ level_cmp x y
+places_compare x y = let a = raised x in let b = raised y in grind (arith, ints, nat_tests)
 
 -- no two link levels have one place
 pub level_apart : (x y : LinkLevel) → level_place x ≡ level_place y → x ≡ y

@@ -5,6 +5,7 @@ use crate::placed::Placed;
 use std::fmt;
 
 /// A delay, counted in microseconds.
+#[repr(C)]
 #[derive(Clone, Copy, Debug, PartialEq, Eq, PartialOrd, Ord)]
 pub struct Delay {
     pub micros: u32,

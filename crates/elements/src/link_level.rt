@@ -2,16 +2,54 @@ ghost use Rattle.std.specs.Prelude.{◌-◌, ◌^◌, ◌<◌, pos, negsuc, ◌�
 
 use crate::ordered::{Ordered, sample_number};
 use crate::placed::Placed;
+use std::cmp::Ordering;
 use std::fmt;
 
 /// The level of a link, in hundredths of dBm, with the link's number.
-#[derive(Clone, Copy, Debug, PartialEq, Eq, PartialOrd, Ord)]
+#[repr(C)]
+#[derive(Clone, Copy, Debug, PartialEq, Eq)]
 pub struct LinkLevel {
     pub level: i32,
     pub link: u32,
     ghost low: { negsuc (2 ^ 31 - 1) ≤ℤ level },
     ghost high: { level ≤ℤ pos (2 ^ 31 - 1) },
     ghost fits: { link < 2 ^ 32 },
+}
+
+/// By level, then by link, which is by place.
+impl Ord for LinkLevel {
+    ghost use Rattle.std.specs.Cmp.Rules.{comparing};
+    ghost use Rattle.std.proofs.Common.{rules};
+    ghost use Rattle.elements.specs.LinkLevels.{level_cmp};
+
+    ghost cmp = { level_cmp };
+
+    ghost total = { Prim.search (comparing, rules) };
+
+    ghost matches_partial_cmp = { Prim.search (comparing, rules) };
+
+    ghost matches_eq = { Prim.search (comparing, rules) };
+
+    #[tactic(auto, using(crate::specs::LevelPlaces::places_compare))]
+    fn cmp(&self, other: &LinkLevel) -> Ordering {
+        self.place_number().cmp(&other.place_number())
+    }
+}
+
+impl PartialOrd for LinkLevel {
+    ghost use Rattle.std.specs.Ordering.{as_partial_cmp};
+    ghost use Rattle.std.specs.Cmp.{partial_order_from_own_ties};
+    ghost use Rattle.std.specs.Cmp.Rules.{comparing};
+    ghost use Rattle.std.proofs.Common.{rules};
+    ghost use Rattle.elements.specs.LinkLevels.{level_cmp};
+
+    ghost partial_cmp = { as_partial_cmp level_cmp };
+
+    ghost laws = { partial_order_from_own_ties (Prim.search (comparing, rules)) (Prim.search (comparing, rules)) };
+
+    fn partial_cmp(&self, other: &LinkLevel) -> Option<Ordering> {
+        Some(self.cmp(other))
+    }
 }
 
 impl Ordered for LinkLevel {

@@ -1,15 +1,14 @@
 -- The states after the seats hold no counts: neither after a put nor after a verdict.
 use Rattle.std.proofs.Common.{◌≡◌, ℕ, ◌+◌, ◌-◌, ◌<◌, List, length, drop, set, arith}
 use Rattle.std.specs.Prelude.{Some}
-use Rattle.std.specs.List.{AllZip}
 use Rattle.std.proofs.lemmas.List.{drop-set-lt}
-use Rattle.std.proofs.lemmas.List.Sums.{sum_by-take-drop, sum_by-drop_more}
-use Rattle.group.specs.SeatStates.{IsAfter}
+use Rattle.std.proofs.lemmas.List.Sums.{sum_by-drop_more}
+use Rattle.group.specs.SeatStates.{AreAfter}
 use Rattle.group.specs.SeatTotals.{given_of, totals_of}
 use Rattle.group.specs.declared.seat_state.SeatState.{SeatState}
 use Rattle.referees.specs.declared.verdict.GroupVerdict.{GroupVerdict}
 use Rattle.group.specs.SeatValues.{SeatValue, seat_number}
-use Rattle.group.proofs.After.{nothing_given_after}
+use Rattle.group.proofs.After.{same_past}
 use Rattle.group.proofs.Seated.{seated, number_within}
 
 -- none of the states from n on, which are those after the seats, holds counts
@@ -31,7 +30,6 @@ idle_more n states seat room idle =
     let first = sum_by-drop_more (λ (other : SeatState). given_of other.given) states n seat room in
     rw drop-set-lt (omega arith)
 
--- after a verdict no state holds counts, so none after the seats does
-pub idle_after : (verdict : GroupVerdict) (n : ℕ) (old new : List SeatState) → AllZip (IsAfter verdict) old new → Idle n new
-idle_after verdict n old new after =
-    omega (arith, nothing_given_after verdict old new after, sum_by-take-drop (λ (seat : SeatState). given_of seat.given) new n)
+-- a verdict changes no state after the seats
+pub idle_after : (verdict : GroupVerdict) (n : ℕ) (old new : List SeatState) → AreAfter verdict n old new → Idle n old → Idle n new
+idle_after verdict n old new after idle = rw (same_past verdict n old new after) idle

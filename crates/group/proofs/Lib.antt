@@ -11,10 +11,12 @@ pub mod LaterRounds
 pub mod FiveRules
 pub mod FinishedExchanges
 pub mod Weaves
+pub mod Halves
 pub mod TableTotals
 pub mod Seated
 pub mod After
 pub mod Idle
+pub mod Reported
 pub mod TableSums
 pub mod Openings
 pub mod Numbers

@@ -1,13 +1,12 @@
 -- The seats are the first n of some states: what is read of them, and what a put leaves.
-use Rattle.std.proofs.Common.{◌≡◌, ℕ, zero, suc, ◌+◌, ◌-◌, ◌<◌, ◌≤◌, List, [], ◌∷◌, ◌++◌, map, length, take, set, sym, refl, ap, ◌∙◌, le_of_suc-le-suc, arith}
-use Rattle.std.specs.Prelude.{Some, None, Option, slice_get}
+use Rattle.std.proofs.Common.{◌≡◌, ℕ, zero, suc, ◌+◌, ◌-◌, ◌<◌, ◌≤◌, List, [], ◌∷◌, ◌++◌, map, length, take, set, refl, ap, ◌∙◌, le_of_suc-le-suc, arith}
+use Rattle.std.specs.Prelude.{Some, slice_get}
 use Rattle.std.specs.Option.{option_map}
 use Rattle.std.proofs.Math.Seq.{take-set-lt}
 use Rattle.std.proofs.lemmas.List.{length-map, length-take, map-set, map_push, take_more_set}
 use Rattle.std.proofs.lemmas.Option.{none-some, slice_get-map, slice_get_within}
 use Rattle.group.specs.declared.seat_state.SeatState.{SeatState}
 use Rattle.group.specs.SeatValues.{SeatValue, seat_value, seat_number}
-use Rattle.group.specs.SeatCalls.{IsSeatNumber}
 
 -- the values of the first n states
 abbrev pub seated : ℕ → List SeatState → List SeatValue
@@ -21,18 +20,12 @@ slice_get-take (suc n) (x ∷ xs) zero below = refl
 slice_get-take (suc n) (x ∷ xs) (suc i) below = slice_get-take n xs i (le_of_suc-le-suc below)
 
 -- the seat of a number from 1 to n is the state one place before it, since states are counted from 0 on
-seat_number_is : (n : ℕ) (states : List SeatState) (number : ℕ) → 0 < number → number ≤ n →
+pub seat_number_is : (n : ℕ) (states : List SeatState) (number : ℕ) → 0 < number → number ≤ n →
     seat_number (seated n states) number ≡ option_map seat_value (slice_get states (number - 1))
 seat_number_is n states zero some few = absurd (omega arith)
 seat_number_is n states (suc i) some few =
     let before : suc i - 1 ≡ i = omega arith in
     rw before (slice_get-map seat_value (take n states) i ∙ ap (option_map seat_value) (slice_get-take n states i (omega arith)))
-
--- the state read one place before a number from 1 to n is the seat of that number
-pub reads_seat : (n : ℕ) (states : List SeatState) (number : ℕ) (seat : Option SeatState) → 0 < number → number ≤ n →
-    seat ≡ slice_get states (number - 1) → IsSeatNumber (seated n states) number seat
-reads_seat n states number None some few is = seat_number_is n states number some few ∙ ap (option_map seat_value) (sym is)
-reads_seat n states number (Some seat) some few is = seat_number_is n states number some few ∙ ap (option_map seat_value) (sym is)
 
 -- a number that a seat has is from 1 to n
 pub number_within : (n : ℕ) (states : List SeatState) (number : ℕ) (value : SeatValue) → seat_number (seated n states) number ≡ Some value →

@@ -1,15 +1,14 @@
--- What all states add up to is what the seats among them have given, since the others hold no counts.
-use Rattle.std.proofs.Common.{◌≡◌, ℕ, ◌+◌, ◌<◌, ◌≤◌, true, false, List, [], ◌∷◌, length, get_or, map, drop, take, refl, arith}
+-- What the first states add up to is what the seats have given, if all have.
+use Rattle.std.proofs.Common.{◌≡◌, ℕ, ◌<◌, ◌≤◌, true, false, List, [], ◌∷◌, length, get_or, map, take, sym, refl, arith}
 use Rattle.std.specs.Prelude.{Some, None, Option, is_some}
 use Rattle.std.specs.List.{sum_by}
 use Rattle.std.proofs.lemmas.Bool.{and_from, and_parts, false_from_ne_true, false≢true}
 use Rattle.std.proofs.lemmas.List.{length-map, length-take}
-use Rattle.std.proofs.lemmas.List.Sums.{sum_by-cons, sum_by-le, sum_by-take-drop}
+use Rattle.std.proofs.lemmas.List.Sums.{sum_by-cons, sum_by-le}
 use Rattle.group.specs.SeatTotals.{given_of, below_of, above_of, totals_of}
 use Rattle.group.specs.declared.seat_state.SeatState.{SeatState}
 use Rattle.group.specs.declared.counts.Counts.{Counts}
 use Rattle.group.specs.SeatValues.{SeatValue, seat_value, all_given, gathered}
-use Rattle.group.proofs.Idle.{Idle}
 use Rattle.group.proofs.Seated.{seated}
 
 -- a sum over a mapped list is a sum over the list itself
@@ -18,31 +17,10 @@ sum_by-map f g [] = refl
 sum_by-map f g (x ∷ xs) =
     omega (arith, sum_by-cons f (g x) (map g xs), sum_by-cons (λ y. f (g y)) x xs, sum_by-map f g xs)
 
--- a sum over the seats and the same over the states after them make that over all states
+-- a sum over the seats is one over their states
 seated_sum : (f : Option Counts → ℕ) (n : ℕ) (states : List SeatState) →
-    sum_by (λ value. f value.given) (seated n states) + sum_by (λ seat. f seat.given) (drop n states) ≡ sum_by (λ seat. f seat.given) states
-seated_sum f n states =
-    omega (
-      arith,
-      sum_by-map (λ (value : SeatValue). f value.given) seat_value (take n states),
-      sum_by-take-drop (λ (seat : SeatState). f seat.given) states n,
-    )
-
--- where nothing is given, the counts are 0
-none_counts : (given : Option Counts) → given_of given ≡ 0 → (below_of given ≡ 0) × (above_of given ≡ 0)
-none_counts None none = (refl, refl)
-none_counts (Some counts) none = absurd (omega arith)
-
--- states that hold no counts add up to counts of 0
-no_counts : (states : List SeatState) → (totals_of states).given ≡ 0 → ((totals_of states).below ≡ 0) × ((totals_of states).above ≡ 0)
-no_counts [] none = (refl, refl)
-no_counts (seat ∷ states) none =
-    let given = sum_by-cons (λ (other : SeatState). given_of other.given) seat states in
-    let here = none_counts seat.given (omega arith) in
-    let others = no_counts states (omega arith) in (
-      omega (arith, sum_by-cons (λ (other : SeatState). below_of other.given) seat states),
-      omega (arith, sum_by-cons (λ (other : SeatState). above_of other.given) seat states),
-    )
+    sum_by (λ value. f value.given) (seated n states) ≡ sum_by (λ seat. f seat.given) (take n states)
+seated_sum f n states = sum_by-map (λ (value : SeatValue). f value.given) seat_value (take n states)
 
 -- how many seats have given their counts
 abbrev given_count : List SeatValue → ℕ
@@ -79,8 +57,8 @@ counted_all (value ∷ seats) counted =
     let others = sum_by-le (λ (seat : SeatValue). given_of seat.given) 1 seats (λ k d within. once (get_or seats k d).given) in
     and_from (is_some value.given) (all_given seats) (once_given value.given (omega arith)) (counted_all seats (omega arith))
 
--- where fewer states hold counts than there are seats, not all seats have given theirs
-pub gathers_none : (n : ℕ) (states : List SeatState) → n ≤ length states → (totals_of states).given < n → None ≡ gathered (seated n states)
+-- where fewer have given their counts than there are seats, not all have
+pub gathers_none : (n : ℕ) (states : List SeatState) → n ≤ length states → (totals_of (take n states)).given < n → None ≡ gathered (seated n states)
 gathers_none n states room few =
     let some_missing : all_given (seated n states) ≡ false
     = false_from_ne_true (all_given (seated n states)) (λ all.
@@ -93,13 +71,12 @@ gathers_none n states room few =
     )) in
     rw some_missing refl
 
--- where as many do, all seats have, and the sums over all states are those over the seats
-pub gathers_all : (n : ℕ) (states : List SeatState) → Idle n states → n ≤ (totals_of states).given →
-    Some (record { below = (totals_of states).below; above = (totals_of states).above }) ≡ gathered (seated n states)
-gathers_all n states idle many =
-    let none = no_counts (drop n states) idle in
+-- where as many have, all have, and the sums over the states are those over the seats
+pub gathers_all : (n : ℕ) (states : List SeatState) → n ≤ (totals_of (take n states)).given →
+    Some (record { below = (totals_of (take n states)).below; above = (totals_of (take n states)).above }) ≡ gathered (seated n states)
+gathers_all n states many =
     let all : all_given (seated n states) ≡ true
     = counted_all (seated n states) (omega (arith, seated_sum given_of n states, length-map (take n states) seat_value, length-take n states)) in
-    let below : (totals_of states).below ≡ sum_by (λ value. below_of value.given) (seated n states) = omega (arith, seated_sum below_of n states) in
-    let above : (totals_of states).above ≡ sum_by (λ value. above_of value.given) (seated n states) = omega (arith, seated_sum above_of n states) in
+    let below = sym (seated_sum below_of n states) in
+    let above = sym (seated_sum above_of n states) in
     rw all (λ i. Some (record { below = below i; above = above i }))

@@ -1,7 +1,7 @@
 -- What is read, put and added up of two lists taken in turns.
-use Rattle.std.proofs.Common.{◌≡◌, ℕ, zero, suc, ◌+◌, ◌/◌, ◌%◌, Bool, true, false, cond, List, [], ◌∷◌, length, refl, ap, ◌∙◌, arith}
+use Rattle.std.proofs.Common.{◌≡◌, ℕ, zero, suc, ◌+◌, ◌-◌, ◌/◌, ◌%◌, Bool, true, false, cond, List, [], ◌∷◌, length, take, refl, ap, ◌∙◌, arith}
 use Rattle.std.specs.Prelude.{None, slice_get, slice_set, ◌==◌}
-use Rattle.std.specs.List.{AllZip, sum_by}
+use Rattle.std.specs.List.{sum_by}
 use Rattle.std.proofs.lemmas.List.Sums.{sum_by-cons}
 use Rattle.group.specs.SeatTables.{weave}
 
@@ -44,30 +44,28 @@ puts_by_parity (x ∷ xs) (y ∷ ys) e (suc (suc i)) v =
     both true = refl
     both false = refl
 
--- what holds of two lists item by item, and of two others, holds of them taken in turns
-pub related_in_turns : {X Y : Type 0} (R : X → Y → Type 0) (xs ys : List X) (us vs : List Y) → length xs ≡ length ys →
-    AllZip R xs us → AllZip R ys vs → AllZip R (weave xs ys) (weave us vs)
-related_in_turns R [] ys [] vs e a b = tt
-related_in_turns R [] ys (u ∷ us) vs e a b = absurd a
-related_in_turns R (x ∷ xs) [] us vs e a b = absurd (omega arith)
-related_in_turns R (x ∷ xs) (y ∷ ys) [] vs e a b = absurd a
-related_in_turns R (x ∷ xs) (y ∷ ys) (u ∷ us) [] e a b = absurd b
-related_in_turns R (x ∷ xs) (y ∷ ys) (u ∷ us) (v ∷ vs) e a b =
-    let same : length xs ≡ length ys = omega arith in
-    (a.0, (b.0, related_in_turns R xs ys us vs same a.1 b.1))
+-- a sum over the first of no elements is 0
+none_taken : {X : Type 0} (f : X → ℕ) (n : ℕ) → sum_by f (take n []) ≡ 0
+none_taken f zero = refl
+none_taken f (suc n) = refl
 
--- a sum over two lists taken in turns is the sum over both
-pub sum_in_turns : {X : Type 0} (f : X → ℕ) (xs ys : List X) → length xs ≡ length ys → sum_by f (weave xs ys) ≡ sum_by f xs + sum_by f ys
-sum_in_turns f [] [] e = refl
-sum_in_turns f [] (y ∷ ys) e = absurd (omega arith)
-sum_in_turns f (x ∷ xs) [] e = absurd (omega arith)
-sum_in_turns f (x ∷ xs) (y ∷ ys) e =
+-- a sum over the first n of two lists taken in turns is a sum over the first half of n of the one and over the other half of the other
+pub sum_in_turns : {X : Type 0} (f : X → ℕ) (n : ℕ) (xs ys : List X) → length xs ≡ length ys →
+    sum_by f (take n (weave xs ys)) ≡ sum_by f (take (n - n / 2) xs) + sum_by f (take (n / 2) ys)
+sum_in_turns f zero xs ys e = refl
+sum_in_turns f (suc n) [] (y ∷ ys) e = absurd (omega arith)
+sum_in_turns f (suc n) (x ∷ xs) [] e = absurd (omega arith)
+sum_in_turns f (suc n) [] [] e = omega (arith, none_taken f (suc n - suc n / 2), none_taken f (suc n / 2))
+sum_in_turns f (suc zero) (x ∷ xs) (y ∷ ys) e = omega arith
+sum_in_turns f (suc (suc n)) (x ∷ xs) (y ∷ ys) e =
     let same : length xs ≡ length ys = omega arith in
-    omega (
+    let half : suc (suc n) / 2 ≡ suc (n / 2) = omega arith in
+    let other : suc (suc n) - suc (n / 2) ≡ suc (n - n / 2) = omega arith in
+    rw (half, other) (omega (
       arith,
-      sum_in_turns f xs ys same,
-      sum_by-cons f x (y ∷ weave xs ys),
-      sum_by-cons f y (weave xs ys),
-      sum_by-cons f x xs,
-      sum_by-cons f y ys,
-    )
+      sum_in_turns f n xs ys same,
+      sum_by-cons f x (y ∷ take n (weave xs ys)),
+      sum_by-cons f y (take n (weave xs ys)),
+      sum_by-cons f x (take (n - n / 2) xs),
+      sum_by-cons f y (take (n / 2) ys),
+    ))

@@ -6,6 +6,7 @@ pub mod Exchanges
 pub mod GroupLaws
 pub mod NarrowedRange
 pub mod SeatStates
+pub mod Halves
 pub mod SeatTotals
 pub mod SeatTables
 pub mod WeaveLength

@@ -1,8 +1,9 @@
 -- What the calls on the seats of a group answer and leave.
-use Rattle.std.specs.Prelude.{◌≡◌, ℕ, ◌+◌, ◌-◌, ◌≤◌, ◌<◌, List, [], ◌∷◌, ◌++◌, map, take, Some, None, Ok, Err, Option, Result, slice_set}
+use Rattle.std.specs.Prelude.{◌≡◌, ℕ, ◌+◌, ◌-◌, ◌≤◌, ◌<◌, List, [], ◌∷◌, ◌++◌, map, take, Some, None, Ok, Err, Result, slice_set}
 use Rattle.elements.specs.Limits.{longest_list}
 use Rattle.std.specs.List.{sum}
 use Rattle.faults.specs.declared.refusal.Refusal.{Refusal}
+use Rattle.faults.specs.declared.refusal.Refusal.TheVariants.{ListTooLong}
 use Rattle.group.specs.declared.range.Range.{Range}
 use Rattle.group.specs.SeatTables.{table_seats}
 use Rattle.group.specs.declared.seat_state.SeatState.{SeatState}
@@ -26,11 +27,11 @@ abbrev pub IsEmpty : GroupSeats → Type 0
 IsEmpty seats = (seats.count ≡ 0) × (seats.total ≡ 0)
 
 -- one seat more, unless its length is over 65,536
-abbrev pub IsSeated : GroupSeats → (declared : ℕ) → Option GroupSeats → Type 0
-IsSeated old declared None = longest_list < declared
-IsSeated old declared (Some new) =
+abbrev pub IsSeated : GroupSeats → (declared : ℕ) → GroupSeats → Result (Unit {0}) Refusal → Type 0
+IsSeated old declared new (Ok u) =
     (declared ≤ longest_list) × (new.count ≡ old.count + 1) × (new.total ≡ old.total + declared)
     × (seats_of new ≡ seats_of old ++ (new_seat declared ∷ []))
+IsSeated old declared new (Err refusal) = (longest_list < declared) × (refusal ≡ ListTooLong)
 
 -- a seat for each length, of which none is too long, in their order
 abbrev pub Seats : List ℕ → Result GroupSeats Refusal → Type 0
@@ -38,17 +39,12 @@ Seats lengths (Ok seats) =
     (seats_refusal lengths ≡ None) × (seats_of seats ≡ map new_seat lengths) × (seats.total ≡ sum lengths)
 Seats lengths (Err refusal) = seats_refusal lengths ≡ Some refusal
 
--- the state of the seat of a number
-abbrev pub IsSeatNumber : List SeatValue → ℕ → Option SeatState → Type 0
-IsSeatNumber seats number None = seat_number seats number ≡ None
-IsSeatNumber seats number (Some seat) = seat_number seats number ≡ Some (seat_value seat)
-
--- a seat's state with what it reports at the target of a range, or why that is refused
-abbrev pub ReportsAs : Range → List SeatValue → (number : ℕ) → Counts → Result SeatState Refusal → Type 0
-ReportsAs range seats number counts (Ok seat) =
-    (seat_refusal range.from range.to (seat_number seats number) counts ≡ None)
-    × ((was : SeatValue) × (seat_number seats number ≡ Some was) × (seat_value seat ≡ with_counts counts was))
-ReportsAs range seats number counts (Err refusal) = seat_refusal range.from range.to (seat_number seats number) counts ≡ Some refusal
+-- counts at the target of a range are what a seat's state has given; refused, nothing changes
+abbrev pub TakesCounts : Range → Counts → SeatState → SeatState → Result (Unit {0}) Refusal → Type 0
+TakesCounts range counts old new (Ok u) =
+    (seat_refusal range.from range.to (Some (seat_value old)) counts ≡ None) × (seat_value new ≡ with_counts counts (seat_value old))
+TakesCounts range counts old new (Err refusal) =
+    (seat_refusal range.from range.to (Some (seat_value old)) counts ≡ Some refusal) × (new ≡ old)
 
 -- a report is what its seat has given in this round, and nothing else changes; refused, nothing does
 abbrev pub TakesReport : Range → (number : ℕ) → Counts → GroupSeats → GroupSeats → Result (Unit {0}) Refusal → Type 0

@@ -1,7 +1,6 @@
 -- What the states of seats add up to.
 use Rattle.std.specs.Prelude.{ℕ, ◌+◌, List, Some, None, Option}
 use Rattle.std.specs.List.{sum_by}
-use Rattle.elements.specs.Limits.{saturated}
 use Rattle.group.specs.declared.seat_state.SeatState.{SeatState}
 use Rattle.group.specs.declared.totals.Totals.{Totals}
 use Rattle.group.specs.declared.counts.Counts.{Counts}
@@ -28,18 +27,6 @@ totals_of seats = record {
   above = sum_by (λ seat. above_of seat.given) seats;
 }
 
--- what they add up to, each number in 32 bits
-abbrev pub saturated_totals : List SeatState → Totals
-saturated_totals seats = record {
-  given = saturated (totals_of seats).given;
-  below = saturated (totals_of seats).below;
-  above = saturated (totals_of seats).above;
-}
-
--- two totals added, each number in 32 bits
+-- two totals added
 abbrev pub added : Totals → Totals → Totals
-added one other = record {
-  given = saturated (one.given + other.given);
-  below = saturated (one.below + other.below);
-  above = saturated (one.above + other.above);
-}
+added one other = record { given = one.given + other.given; below = one.below + other.below; above = one.above + other.above }

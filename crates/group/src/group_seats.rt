@@ -6,7 +6,7 @@ ghost use Rattle.group.specs.SeatTotals.{totals_of};
 use crate::counts::Counts;
 use crate::range::Range;
 use crate::seat_state::SeatState;
-use crate::seat_table::{SeatTable, table_advance, table_get, table_of, table_put, table_totals};
+use crate::seat_table::{SeatTable, table_advance, table_of, table_seat, table_totals};
 use crate::totals::Totals;
 use faults::refusal::Refusal;
 use referees::verdict::GroupVerdict;
@@ -25,7 +25,7 @@ pub struct GroupSeats {
 
 impl GroupSeats {
     ghost use Rattle.std.specs.Prelude.{◌<◌, ◌≡◌, map};
-    ghost use Rattle.group.specs.SeatCalls.{IsEmpty, IsSeated, Seats, count_of, total_of, seats_of, IsSeatNumber, ReportsAs, TakesReport};
+    ghost use Rattle.group.specs.SeatCalls.{IsEmpty, IsSeated, Seats, count_of, total_of, seats_of, TakesReport};
     ghost use Rattle.group.specs.SeatValues.{seat_after, gathered};
 
     /// No seat yet.
@@ -41,24 +41,17 @@ impl GroupSeats {
         }
     }
 
-    /// One seat more, which has declared a length, or none where that is too long.
-    #[tactic(auto, using(crate::proofs::Seated::seated_more, crate::proofs::Idle::idle_more, crate::proofs::TableTotals::length_table))]
-    fn with_seat(self, declared: u32) -> Option<GroupSeats>
-        requires { count_of self < 16 }
-        ensures { IsSeated self declared result }
+    /// Seats one more, which has declared a length, unless that is too long.
+    #[tactic(auto, using(crate::proofs::Halves::puts_seat_at, crate::proofs::Seated::seated_more, crate::proofs::Idle::idle_more, crate::proofs::TableTotals::length_table))]
+    fn add(&mut self, declared: u32) -> Result<(), Refusal>
+        requires { count_of self.old < 16 }
+        ensures { IsSeated self.old declared self.new result }
     {
-        let seat = SeatState::new(declared)?;
-        let GroupSeats {
-            count,
-            mut table,
-            total,
-        } = self;
-        table_put(&mut table, count, seat);
-        Some(GroupSeats {
-            count: count + 1,
-            table,
-            total: total + declared,
-        })
+        let seat = SeatState::new(declared).ok_or(Refusal::ListTooLong)?;
+        *table_seat(&mut self.table, self.count) = seat;
+        self.count += 1;
+        self.total += declared;
+        Ok(())
     }
 
     /// Seats a group, by the lengths that its seats declare.
@@ -70,35 +63,13 @@ impl GroupSeats {
         }
         let mut seats = GroupSeats::empty();
         for declared in lengths {
-            seats = seats.with_seat(*declared).ok_or(Refusal::ListTooLong)?;
+            seats.add(*declared)?;
         }
         Ok(seats)
     }
 
-    /// The state of the seat of a number, from 1 on, if there is such a seat.
-    #[tactic(auto, using(crate::proofs::Seated::reads_seat))]
-    fn seat(&self, number: u32) -> Option<SeatState>
-        ensures { IsSeatNumber (seats_of self.now) number result }
-    {
-        if number == 0 || number > self.count {
-            return None;
-        }
-        table_get(&self.table, number - 1)
-    }
-
-    /// The state of a seat with what it reports, or why that is refused.
-    fn reporting(&self, range: Range, number: u32, counts: Counts) -> Result<SeatState, Refusal>
-        ensures { ReportsAs range (seats_of self.now) number counts result }
-    {
-        let seat = self.seat(number).ok_or(Refusal::NotItsTurn)?;
-        if seat.given.is_some() {
-            return Err(Refusal::NotItsTurn);
-        }
-        seat.reporting(range, counts).ok_or(Refusal::Impossible)
-    }
-
-    /// Takes what a seat reports at the target of a range.
-    #[tactic(auto, using(crate::proofs::Seated::seated_set, crate::proofs::Idle::idle_set))]
+    /// Takes what a seat, numbered from 1, reports at the target of a range.
+    #[tactic(auto, using(crate::proofs::Reported::takes_report, crate::proofs::Reported::idle_reported))]
     pub(crate) fn report(
         &mut self,
         range: Range,
@@ -107,9 +78,10 @@ impl GroupSeats {
     ) -> Result<(), Refusal>
         ensures { TakesReport range number counts self.old self.new result }
     {
-        let seat = self.reporting(range, number, counts)?;
-        table_put(&mut self.table, number - 1, seat);
-        Ok(())
+        if number == 0 || number > self.count {
+            return Err(Refusal::NotItsTurn);
+        }
+        table_seat(&mut self.table, number - 1).report(range, counts)
     }
 
     /// Each seat's state after a verdict.
@@ -118,7 +90,7 @@ impl GroupSeats {
         ensures seats { seats_of self.new ≡ map (seat_after verdict) (seats_of self.old) }
         ensures total { total_of self.new ≡ total_of self.old }
     {
-        table_advance(&mut self.table, verdict);
+        table_advance(&mut self.table, self.count, verdict);
     }
 
     /// The sum of the lengths that the seats declared.
@@ -137,7 +109,7 @@ impl GroupSeats {
             given,
             below,
             above,
-        } = table_totals(&self.table);
+        } = table_totals(&self.table, self.count);
         if given < self.count {
             return None;
         }

@@ -59,25 +59,13 @@ impl Progress {
         referee.weigh(sums)
     }
 
-    /// The progress after a verdict.
-    pub(crate) fn after(self, verdict: GroupVerdict) -> Progress
-        ensures { state_of result ≡ moved_state verdict (state_of self) }
+    /// Goes on by a verdict.
+    pub(crate) fn advance(&mut self, verdict: GroupVerdict)
+        ensures { state_of self.new ≡ moved_state verdict (state_of self.old) }
     {
-        let Progress {
-            rank,
-            limits,
-            range,
-            made,
-            mut seats,
-        } = self;
-        seats.advance(verdict);
-        Progress {
-            rank,
-            limits,
-            range: range.narrowed(verdict),
-            made: made.saturating_add(1),
-            seats,
-        }
+        self.range = self.range.narrowed(verdict);
+        self.made = self.made.saturating_add(1);
+        self.seats.advance(verdict);
     }
 
     /// The run in the stage that a verdict calls for.

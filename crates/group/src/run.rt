@@ -120,17 +120,20 @@ impl<T: Placed> Run<T, Comparing> {
 
     /// Has the referee weigh the sums of all reports, and goes on by its verdict.
     pub fn step<R: Referee<T>>(
-        self,
+        mut self,
         referee: &mut R,
     ) -> Result<Advanced<T>, Refused<Run<T, Comparing>>>
         ensures steps { Steps self (R.Stocked.stock referee.old) result }
         ensures asks { AsksOne R.Stocked.stock R.Referee.spends referee.old referee.new (step_answer result) }
     {
         match self.progress.ask(referee) {
-            Ok(verdict) => Ok(Advanced {
-                verdict,
-                run: self.progress.after(verdict).staged(verdict),
-            }),
+            Ok(verdict) => {
+                self.progress.advance(verdict);
+                Ok(Advanced {
+                    verdict,
+                    run: self.progress.staged(verdict),
+                })
+            }
             Err(fault) => Err(Refused { fault, given: self }),
         }
     }

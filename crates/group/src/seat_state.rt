@@ -7,6 +7,7 @@ use crate::count_bounds::CountBounds;
 use crate::counts::Counts;
 use crate::range::Range;
 use elements::limits::LONGEST_LIST;
+use faults::refusal::Refusal;
 use referees::verdict::GroupVerdict;
 
 /// What is known of a seat, and the counts that it has reported in this round, if it has. No declared length is over
@@ -20,7 +21,8 @@ pub struct SeatState {
 }
 
 impl SeatState {
-    ghost use Rattle.group.specs.SeatStates.{IsNewSeat, IsReporting, IsAfter};
+    ghost use Rattle.group.specs.SeatStates.{IsNewSeat, IsAfter};
+    ghost use Rattle.group.specs.SeatCalls.{TakesCounts};
 
     /// The state of a seat that has declared a length, before any round, or none where that is too long.
     pub(crate) fn new(declared: u32) -> Option<SeatState>
@@ -37,29 +39,27 @@ impl SeatState {
         Some(SeatState { known, given: None })
     }
 
-    /// The state with counts that its seat reports at the target of a range, or none where the seat cannot have them.
-    pub(crate) fn reporting(self, range: Range, counts: Counts) -> Option<SeatState>
-        ensures { IsReporting self range counts result }
+    /// Takes counts that its seat reports at the target of a range.
+    pub(crate) fn report(&mut self, range: Range, counts: Counts) -> Result<(), Refusal>
+        ensures { TakesCounts range counts self.old self.new result }
     {
-        if !range.keeps_rules(self.known, counts) {
-            return None;
+        if self.given.is_some() {
+            return Err(Refusal::NotItsTurn);
         }
-        Some(SeatState {
-            known: self.known,
-            given: Some(counts),
-        })
+        if !range.keeps_rules(self.known, counts) {
+            return Err(Refusal::Impossible);
+        }
+        self.given = Some(counts);
+        Ok(())
     }
 
-    /// The state after a verdict: what the seat gave has shown more of it, and it has given nothing yet.
-    pub(crate) fn after(self, verdict: GroupVerdict) -> SeatState
-        ensures { IsAfter verdict self result }
+    /// Goes on by a verdict: what the seat gave has shown more of it, and it has given nothing yet.
+    pub(crate) fn learn(&mut self, verdict: GroupVerdict)
+        ensures { IsAfter verdict self.old self.new }
     {
-        match self.given {
-            Some(counts) => SeatState {
-                known: learned(self.known, verdict, counts),
-                given: None,
-            },
-            None => self,
+        if let Some(counts) = self.given {
+            self.known = learned(self.known, verdict, counts);
+            self.given = None;
         }
     }
 }

@@ -1,7 +1,9 @@
-ghost use Rattle.std.specs.Prelude.{◌≡◌, ℕ, List, length, slice_get, slice_set, ◌*◌, replicate};
-ghost use Rattle.std.specs.List.{AllZip};
-ghost use Rattle.group.specs.SeatStates.{IsAfter};
-ghost use Rattle.group.specs.SeatTotals.{saturated_totals, totals_of};
+ghost use Rattle.std.specs.Prelude.{◌≡◌, ◌≤◌, ◌+◌, ℕ, List, length, slice_get, slice_set, ◌*◌, replicate, take};
+ghost use Rattle.elements.specs.Limits.{longest_list};
+ghost use Rattle.std.specs.Borrow.{sem};
+ghost use Rattle.group.specs.Halves.{half, LendsHalf, seat_at, LendsSeat};
+ghost use Rattle.group.specs.SeatStates.{AreAfter};
+ghost use Rattle.group.specs.SeatTotals.{totals_of};
 ghost use Rattle.group.specs.declared.seat_state.SeatState.{SeatState};
 ghost use Rattle.std.proofs.Common.{rules, sym, ◌∙◌, arith};
 ghost use Rattle.group.specs.SeatTables.{one_seat, in_turns, table_seats};
@@ -18,6 +20,20 @@ pub(crate) struct Both<R> {
     pub odd: R,
 }
 
+impl<R> Both<R> {
+    /// The half that a number's last bit picks, to be changed in place.
+    fn half_mut(&mut self, i: u32) -> &mut R
+        ensures* lends { sem 𝓛 (LendsHalf R.row self.entry i result) }
+        ensures value { result.now ≡ half self.old i }
+    {
+        if i % 2 == 0 {
+            &mut self.even
+        } else {
+            &mut self.odd
+        }
+    }
+}
+
 /// Sixteen seats, as nested pairs.
 pub(crate) type SeatTable = Both<Both<Both<Both<SeatState>>>>;
 
@@ -29,21 +45,16 @@ pub(crate) trait SeatStates {
     /// How many there are.
     ghost COUNT: { ℕ };
 
-    /// The state of that number, or none where there are not so many.
-    fn get(&self, i: u32) -> Option<SeatState>
-        ensures { result ≡ slice_get (seats self.now) i };
+    /// Advances the first states, as many as `count` says, by a verdict. The others stay.
+    fn advance(&mut self, count: u32, verdict: GroupVerdict)
+        ensures { AreAfter verdict count (seats self.old) (seats self.new) };
 
-    /// Puts a state in the place of the one of that number. Where there are not so many, nothing changes.
-    fn put(&mut self, i: u32, seat: SeatState)
-        ensures { seats self.new ≡ slice_set (seats self.old) i seat };
-
-    /// Each state after a verdict.
-    fn advance(&mut self, verdict: GroupVerdict)
-        ensures { AllZip (IsAfter verdict) (seats self.old) (seats self.new) };
-
-    /// What the states add up to.
-    fn totals(&self) -> Totals
-        ensures { result ≡ saturated_totals (seats self.now) };
+    /// What the first states, as many as `count` says, add up to. The others are not looked at.
+    fn totals(&self, count: u32) -> Totals
+        requires { count ≤ 16 }
+        ensures exact { result ≡ totals_of (take count (seats self.now)) }
+        ensures few { result.given ≤ count }
+        ensures small { result.below + result.above ≤ longest_list * count };
 
     ghost counted: { (table : Self) → length (seats table) ≡ COUNT };
 }
@@ -56,32 +67,21 @@ impl SeatStates for SeatState {
 
     ghost counted = { Prim.search rules };
 
-    fn get(&self, i: u32) -> Option<SeatState> {
-        if i == 0 { Some(*self) } else { None }
-    }
-
-    fn put(&mut self, i: u32, seat: SeatState) {
-        if i == 0 {
-            *self = seat;
+    #[tactic(auto, using(crate::proofs::After::one_after))]
+    fn advance(&mut self, count: u32, verdict: GroupVerdict) {
+        if count > 0 {
+            self.learn(verdict);
         }
     }
 
-    fn advance(&mut self, verdict: GroupVerdict) {
-        *self = self.after(verdict);
-    }
-
-    fn totals(&self) -> Totals {
+    fn totals(&self, count: u32) -> Totals {
         match self.given {
-            Some(counts) => Totals {
+            Some(counts) if count > 0 => Totals {
                 given: 1,
                 below: counts.below,
                 above: counts.above,
             },
-            None => Totals {
-                given: 0,
-                below: 0,
-                above: 0,
-            },
+            _ => Totals::none(),
         }
     }
 }
@@ -97,33 +97,22 @@ impl<R: SeatStates> SeatStates for Both<R> {
         let counted = R.SeatStates.counted in
         omega (arith, length-weave (seats both.even) (seats both.odd) (counted both.even ∙ sym (counted both.odd)), counted both.even) };
 
-    #[tactic(auto, using(crate::proofs::Weaves::reads_by_parity))]
-    fn get(&self, i: u32) -> Option<SeatState> {
-        if i % 2 == 0 {
-            self.even.get(i / 2)
-        } else {
-            self.odd.get(i / 2)
+    #[tactic(auto, using(crate::proofs::After::after_in_turns))]
+    fn advance(&mut self, count: u32, verdict: GroupVerdict) {
+        if count > 0 {
+            self.even.advance(count - count / 2, verdict);
+            self.odd.advance(count / 2, verdict);
         }
     }
 
-    #[tactic(auto, using(crate::proofs::Weaves::puts_by_parity))]
-    fn put(&mut self, i: u32, seat: SeatState) {
-        if i % 2 == 0 {
-            self.even.put(i / 2, seat);
-        } else {
-            self.odd.put(i / 2, seat);
+    #[tactic(auto, using(crate::proofs::TableTotals::totals_in_turns))]
+    fn totals(&self, count: u32) -> Totals {
+        if count == 0 {
+            return Totals::none();
         }
-    }
-
-    #[tactic(auto, using(crate::proofs::Weaves::related_in_turns))]
-    fn advance(&mut self, verdict: GroupVerdict) {
-        self.even.advance(verdict);
-        self.odd.advance(verdict);
-    }
-
-    #[tactic(auto, using(crate::proofs::TableTotals::capped_in_turns))]
-    fn totals(&self) -> Totals {
-        self.even.totals().with(self.odd.totals())
+        self.even
+            .totals(count - count / 2)
+            .with(self.odd.totals(count / 2))
     }
 }
 
@@ -145,34 +134,32 @@ pub(crate) fn table_of(seat: SeatState) -> SeatTable
     twice(twice(twice(twice(seat))))
 }
 
-/// The state of that number in a table, or none where there are not so many.
-#[tactic(auto, unfolding(crate::specs::SeatTables::table_seats))]
-pub(crate) fn table_get(table: &SeatTable, i: u32) -> Option<SeatState>
-    ensures { result ≡ slice_get (table_seats table.now) i }
+/// The state of a table that a number's last four bits pick, to be changed in place.
+#[tactic(auto, unfolding(crate::specs::Halves::seat_at, crate::specs::Halves::with_seat_at))]
+pub(crate) fn table_seat(table: &mut SeatTable, i: u32) -> &mut SeatState
+    ensures* lends { sem 𝓛 (LendsSeat table.entry i result) }
+    ensures value { result.now ≡ seat_at table.old i }
 {
-    table.get(i)
+    table
+        .half_mut(i)
+        .half_mut(i / 2)
+        .half_mut(i / 4)
+        .half_mut(i / 8)
 }
 
-/// Puts a state in the place of the one of that number in a table. Where there are not so many, nothing changes.
+/// Advances the first states of a table by a verdict.
 #[tactic(auto, unfolding(crate::specs::SeatTables::table_seats))]
-pub(crate) fn table_put(table: &mut SeatTable, i: u32, seat: SeatState)
-    ensures { table_seats table.new ≡ slice_set (table_seats table.old) i seat }
+pub(crate) fn table_advance(table: &mut SeatTable, count: u32, verdict: GroupVerdict)
+    ensures { AreAfter verdict count (table_seats table.old) (table_seats table.new) }
 {
-    table.put(i, seat);
+    table.advance(count, verdict);
 }
 
-/// Each state of a table after a verdict.
+/// What the first states of a table add up to.
 #[tactic(auto, unfolding(crate::specs::SeatTables::table_seats))]
-pub(crate) fn table_advance(table: &mut SeatTable, verdict: GroupVerdict)
-    ensures { AllZip (IsAfter verdict) (table_seats table.old) (table_seats table.new) }
+pub(crate) fn table_totals(table: &SeatTable, count: u32) -> Totals
+    requires { count ≤ 16 }
+    ensures { result ≡ totals_of (take count (table_seats table.now)) }
 {
-    table.advance(verdict);
-}
-
-/// What a table's states add up to. Nothing is capped, since no list is longer than 65,536.
-#[tactic(auto, using(crate::proofs::TableTotals::totals_fit), unfolding(crate::specs::SeatTables::table_seats))]
-pub(crate) fn table_totals(table: &SeatTable) -> Totals
-    ensures { result ≡ totals_of (table_seats table.now) }
-{
-    table.totals()
+    table.totals(count)
 }

@@ -1,8 +1,9 @@
 use crate::counts::Counts;
 use crate::range::Range;
 use crate::seat_state::SeatState;
-use crate::seat_table::{SeatStates, table_of, table_totals};
+use crate::seat_table::{SeatStates, table_of, table_seat, table_totals};
 use crate::totals::Totals;
+use faults::refusal::Refusal;
 use referees::verdict::GroupVerdict;
 
 #[test]
@@ -41,21 +42,23 @@ fn a_table_has_sixteen_seats(rt: HostRuntime) {
     let range = Range::over(0, 15).unwrap();
     for (number, below) in [(0, 65_536), (5, 1), (15, 2)] {
         let counts = Counts { below, above: 0 };
-        let seat = SeatState::new(65_536).unwrap().reporting(range, counts);
-        table.put(number, seat.unwrap_or(empty));
-        assert!(rt; table.get(number) == seat);
+        let seat = table_seat(&mut table, number);
+        *seat = SeatState::new(65_536).unwrap();
+        assert_eq!(rt; seat.report(range, counts), Ok(()));
+        assert_eq!(rt; seat.report(range, counts), Err(Refusal::NotItsTurn));
+        assert_eq!(rt; table_seat(&mut table, number).given, Some(counts));
     }
-    assert!(rt; table.get(4) == Some(empty));
-    assert!(rt; table.get(16).is_none());
+    assert!(rt; *table_seat(&mut table, 4) == empty);
     let totals = Totals {
         given: 3,
         below: 65_539,
         above: 0,
     };
-    assert!(rt; table_totals(&table) == totals);
-    table.advance(GroupVerdict::Lower);
-    assert_eq!(rt; table_totals(&table).given, 0);
-    let known = table.get(5).map(|seat| seat.known.high);
-    assert_eq!(rt; known, Some(65_535));
+    assert!(rt; table_totals(&table, 16) == totals);
+    assert_eq!(rt; table_totals(&table, 15).below, 65_537);
+    table.advance(15, GroupVerdict::Lower);
+    assert_eq!(rt; table_totals(&table, 16).given, 1);
+    assert_eq!(rt; table_totals(&table, 15).given, 0);
+    assert_eq!(rt; table_seat(&mut table, 5).known.high, 65_535);
     assert!(rt; SeatState::new(65_537).is_none());
 }

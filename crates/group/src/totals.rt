@@ -1,8 +1,7 @@
-ghost use Rattle.std.specs.Prelude.{◌≡◌};
+ghost use Rattle.std.specs.Prelude.{◌≡◌, ◌+◌, ◌<◌, ◌^◌};
 ghost use Rattle.group.specs.SeatTotals.{added};
 
-/// What the states of some seats add up to: how many seats have given their counts in this round, and the sums of these. A number
-/// that would not fit is the largest that does.
+/// What the states of some seats add up to: how many seats have given their counts in this round, and the sums of these.
 #[derive(Clone, Copy, PartialEq, Eq)]
 pub(crate) struct Totals {
     pub given: u32,
@@ -11,14 +10,28 @@ pub(crate) struct Totals {
 }
 
 impl Totals {
+    /// What no state adds up to.
+    pub(crate) fn none() -> Totals
+        ensures { result ≡ record { given = 0; below = 0; above = 0 } }
+    {
+        Totals {
+            given: 0,
+            below: 0,
+            above: 0,
+        }
+    }
+
     /// What both add up to.
     pub(crate) fn with(self, other: Totals) -> Totals
+        requires given { self.given + other.given < 2 ^ 32 }
+        requires below { self.below + other.below < 2 ^ 32 }
+        requires above { self.above + other.above < 2 ^ 32 }
         ensures { result ≡ added self other }
     {
         Totals {
-            given: self.given.saturating_add(other.given),
-            below: self.below.saturating_add(other.below),
-            above: self.above.saturating_add(other.above),
+            given: self.given + other.given,
+            below: self.below + other.below,
+            above: self.above + other.above,
         }
     }
 }

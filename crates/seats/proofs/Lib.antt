@@ -1,4 +1,4 @@
-pub mod Tallies
+pub mod PlacesInOrder
 pub mod RowEntries
 pub mod GivenReports
 pub mod PairHonest

@@ -1,9 +1,10 @@
 ghost use Rattle.seats.specs.ListRefusals.{IsGroupRefusal, IsOutside};
 ghost use Rattle.seats.specs.SeatReports.{GroupReport, counts_at};
-ghost use Rattle.std.specs.Prelude.{◌≡◌, ◌≤◌, length, map};
+ghost use Rattle.std.specs.Prelude.{◌≡◌, ◌≤◌, ◌↔◌, length, map, IsTrue};
 ghost use Rattle.elements.specs.Limits.{longest_list};
+ghost use Rattle.elements.specs.Orders.{NeverFalls};
 ghost use Rattle.group.specs.GroupCalls.{progress_of_run, limits_of, range_of};
-ghost use Rattle.group.specs.SeatCounts.{below, above};
+ghost use Rattle.group.specs.SeatCounts.{below, above, Within};
 
 use crate::list::list_refusal;
 use elements::placed::Placed;
@@ -40,41 +41,70 @@ pub fn report_of_group<T: Placed>(
     }
 }
 
-/// The number, counted from 1, of the first element whose place is not in a range, if there is one.
+/// Whether a place is in a range.
+fn is_inside(place: u64, range: Range) -> bool
+    ensures { IsTrue result ↔ ((range.from ≤ place) × (place ≤ range.to)) }
+{
+    range.from <= place && place <= range.to
+}
+
+/// Whether every place of a list in order is in a range, as it is if the first and the last are.
+fn is_within<T: Placed>(list: &[T], range: Range) -> bool
+    requires { NeverFalls T.Ordered.before list.now }
+    ensures { IsTrue result ↔ Within T.Placed.place range.from range.to list.now }
+{
+    if list.is_empty() {
+        return true;
+    }
+    let first = list[0].place_number();
+    let last = list[list.len() - 1].place_number();
+    is_inside(first, range) && is_inside(last, range)
+}
+
+/// The number, counted from 1, of the first element of a list in order whose place is not in a range, if there is one.
+/// The list is gone through only where there is.
 fn first_outside<T: Placed>(list: &[T], range: Range) -> Option<usize>
+    requires { NeverFalls T.Ordered.before list.now }
     ensures { IsOutside T.Placed.place range.from range.to list.now result }
 {
+    if is_within(list, range) {
+        return None;
+    }
     for i in 0..list.len() {
-        let place = list[i].place_number();
-        if place < range.from || place > range.to {
+        if !is_inside(list[i].place_number(), range) {
             return Some(i + 1);
         }
     }
     None
 }
 
-/// How many places of a list are below a number, and how many above it.
-fn tally<T: Placed>(list: &[T], m: u64) -> (u64, u64)
-    ensures below { result.0 ≡ below m (map T.Placed.place list.now) }
-    ensures above { result.1 ≡ above m (map T.Placed.place list.now) }
-    ensures few { (result.0 ≤ length list.now) × (result.1 ≤ length list.now) }
+/// How many places of a list in order are below a number.
+fn count_below<T: Placed>(list: &[T], m: u64) -> usize
+    requires { NeverFalls T.Ordered.before list.now }
+    ensures count { result ≡ below m (map T.Placed.place list.now) }
+    ensures few { result ≤ length list.now }
 {
-    let mut below = 0;
-    let mut above = 0;
-    for x in list {
-        let place = (*x).place_number();
-        below += (place < m) as u64;
-        above += (place > m) as u64;
-    }
-    (below, above)
+    list.partition_point(|x| x.place_number() < m)
 }
 
-/// How many places of a list are below the target of a range, and how many above.
+/// How many places of a list in order are above a number.
+fn count_above<T: Placed>(list: &[T], m: u64) -> usize
+    requires { NeverFalls T.Ordered.before list.now }
+    ensures count { result ≡ above m (map T.Placed.place list.now) }
+    ensures few { result ≤ length list.now }
+{
+    list.len() - list.partition_point(|x| x.place_number() <= m)
+}
+
+/// How many places of a list in order are below the target of a range, and how many above.
 fn counts_at<T: Placed>(list: &[T], range: Range) -> Counts
-    requires { length list.now ≤ longest_list }
+    requires in_order { NeverFalls T.Ordered.before list.now }
+    requires short { length list.now ≤ longest_list }
     ensures { result ≡ counts_at T.Placed.place range list.now }
 {
-    let (below, above) = tally(list, range.target());
+    let target = range.target();
+    let below = count_below(list, target);
+    let above = count_above(list, target);
     Counts {
         below: below as u32,
         above: above as u32,

@@ -1,0 +1,1 @@
+pub use Rattle.seats.proofs as Seats
