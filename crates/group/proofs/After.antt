@@ -1,5 +1,5 @@
 -- What a verdict leaves of the first states of a table, which are the seats.
-use Rattle.std.proofs.Common.{◌≡◌, ℕ, zero, suc, ◌-◌, ◌/◌, ◌<◌, List, [], ◌∷◌, length, map, drop, sym, refl, ap, ◌∙◌, subst, arith}
+use Rattle.std.proofs.Common.{◌≡◌, ℕ, zero, suc, ◌-◌, ◌/◌, ◌<◌, List, [], ◌∷◌, length, map, sym, refl, ap, ◌∙◌, subst, arith}
 use Rattle.group.specs.SeatStates.{IsAfter, AreAfter}
 use Rattle.group.specs.SeatTables.{weave}
 use Rattle.group.specs.declared.seat_state.SeatState.{SeatState}
@@ -41,13 +41,6 @@ after_in_turns verdict (suc (suc n)) (x ∷ xs) (y ∷ ys) us vs e a b =
     let half : suc (suc n) / 2 ≡ suc (n / 2) = omega arith in
     let other : suc (suc n) - suc (n / 2) ≡ suc (n - n / 2) = omega arith in
     two_more verdict (n - n / 2) (n / 2) n x y xs ys us vs (λ us vs. after_in_turns verdict n xs ys us vs same) (rw (half, other) at a) (rw half at b)
-
--- the states after the first n stay
-pub same_past : (verdict : GroupVerdict) (n : ℕ) (old new : List SeatState) → AreAfter verdict n old new → drop n new ≡ drop n old
-same_past verdict zero old new after = after
-same_past verdict (suc n) [] new after = ap (drop (suc n)) after
-same_past verdict (suc n) (was ∷ old) [] after = absurd after
-same_past verdict (suc n) (was ∷ old) (seat ∷ new) after = same_past verdict n old new after.1
 
 -- after a verdict, the state of each seat is what the verdict leaves of the one before
 pub seated_after : (verdict : GroupVerdict) (n : ℕ) (old new : List SeatState) → AreAfter verdict n old new →

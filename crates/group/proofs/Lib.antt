@@ -15,7 +15,6 @@ pub mod Halves
 pub mod TableTotals
 pub mod Seated
 pub mod After
-pub mod Idle
 pub mod Reported
 pub mod TableSums
 pub mod Openings

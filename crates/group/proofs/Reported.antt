@@ -2,7 +2,6 @@
 use Rattle.std.proofs.Common.{◌≡◌, ℕ, ◌-◌, ◌*◌, ◌<◌, ◌≤◌, set, ap, ◌∙◌, arith}
 use mathlib.Core.HLevel.{is_prop→PathP}
 use Rattle.std.proofs.Math.Bridge.{le_prop}
-use Rattle.std.proofs.Math.Nat.{ℕ_set}
 use Rattle.std.specs.Option.{option_map}
 use Rattle.std.specs.Prelude.{Some, Ok, Err, Result}
 use Rattle.elements.specs.Limits.{longest_list}
@@ -17,7 +16,6 @@ use Rattle.group.specs.declared.range.Range.{Range}
 use Rattle.group.specs.declared.seat_state.SeatState.{SeatState}
 use Rattle.group.specs.declared.seat_table.Both.{Both}
 use Rattle.group.proofs.Halves.{reads_seat_at, puts_seat_at, same_seat_at}
-use Rattle.group.proofs.Idle.{Idle, idle_set}
 use Rattle.group.proofs.Seated.{seated, seat_number_is, seated_set}
 
 module _ (n : ℕ) (table : Both (Both (Both (Both SeatState)))) (number : ℕ) (room : n ≤ 16) (some : 0 < number) (few : number ≤ n) where
@@ -32,12 +30,6 @@ module _ (n : ℕ) (table : Both (Both (Both (Both SeatState)))) (number : ℕ) 
       ap (seated n) (puts_seat_at table (number - 1) seat (omega arith))
       ∙ seated_set n (table_seats table) number (seat_value (seat_at table (number - 1))) seat seat_is
 
-  -- and no state after the seats changes
-  pub idle_reported : (seat : SeatState) → Idle n (table_seats table) → Idle n (table_seats (with_seat_at table (number - 1) seat))
-  idle_reported seat idle =
-      let put = puts_seat_at table (number - 1) seat (omega arith) in
-      rw put (idle_set n (table_seats table) number (seat_value (seat_at table (number - 1))) seat seat_is idle)
-
 -- seats that are as many, in the same states and of the same sum are the same
 same_seats : (old new : GroupSeats) → new.count ≡ old.count → new.table ≡ old.table → new.total ≡ old.total → new ≡ old
 same_seats old new count table total = λ i. record {
@@ -46,7 +38,6 @@ same_seats old new count table total = λ i. record {
   total = total i;
   few = is_prop→PathP (λ j. count j ≤ 16) (λ j. le_prop) new.few old.few i;
   small = is_prop→PathP (λ j. total j ≤ longest_list * count j) (λ j. le_prop) new.small old.small i;
-  idle = is_prop→PathP (λ j. Idle (count j) (table_seats (table j))) (λ j. ℕ_set _ _) new.idle old.idle i;
 }
 
 -- what the state of a seat takes is a report of that seat

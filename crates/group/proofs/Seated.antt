@@ -28,7 +28,7 @@ seat_number_is n states (suc i) some few =
     rw before (slice_get-map seat_value (take n states) i ∙ ap (option_map seat_value) (slice_get-take n states i (omega arith)))
 
 -- a number that a seat has is from 1 to n
-pub number_within : (n : ℕ) (states : List SeatState) (number : ℕ) (value : SeatValue) → seat_number (seated n states) number ≡ Some value →
+number_within : (n : ℕ) (states : List SeatState) (number : ℕ) (value : SeatValue) → seat_number (seated n states) number ≡ Some value →
     (0 < number) × (number ≤ n)
 number_within n states zero value is = absurd (none-some value is)
 number_within n states (suc i) value is =

@@ -31,7 +31,7 @@ abbrev pub IsSeated : GroupSeats → (declared : ℕ) → GroupSeats → Result 
 IsSeated old declared new (Ok u) =
     (declared ≤ longest_list) × (new.count ≡ old.count + 1) × (new.total ≡ old.total + declared)
     × (seats_of new ≡ seats_of old ++ (new_seat declared ∷ []))
-IsSeated old declared new (Err refusal) = (longest_list < declared) × (refusal ≡ ListTooLong)
+IsSeated old declared new (Err refusal) = (longest_list < declared) × (refusal ≡ ListTooLong) × (new ≡ old)
 
 -- a seat for each length, of which none is too long, in their order
 abbrev pub Seats : List ℕ → Result GroupSeats Refusal → Type 0

@@ -1,7 +1,5 @@
-ghost use Rattle.std.specs.Prelude.{◌≡◌, ◌*◌, ◌≤◌, drop};
+ghost use Rattle.std.specs.Prelude.{◌*◌, ◌≤◌};
 ghost use Rattle.elements.specs.Limits.{longest_list};
-ghost use Rattle.group.specs.SeatTables.{table_seats};
-ghost use Rattle.group.specs.SeatTotals.{totals_of};
 
 use crate::counts::Counts;
 use crate::range::Range;
@@ -12,7 +10,7 @@ use faults::refusal::Refusal;
 use referees::verdict::GroupVerdict;
 
 /// The seats of a group: how many there are, the table of their states, and the sum of the lengths that they declared. The
-/// first states of the table are theirs, and the others never hold counts.
+/// first states of the table are theirs, and nobody looks at the others.
 #[derive(Clone, Copy, PartialEq, Eq)]
 pub struct GroupSeats {
     pub(crate) count: u32,
@@ -20,7 +18,6 @@ pub struct GroupSeats {
     pub(crate) total: u32,
     ghost few: { count ≤ 16 },
     ghost small: { total ≤ longest_list * count },
-    ghost idle: { (totals_of (drop count (table_seats table))).given ≡ 0 },
 }
 
 impl GroupSeats {
@@ -42,7 +39,7 @@ impl GroupSeats {
     }
 
     /// Seats one more, which has declared a length, unless that is too long.
-    #[tactic(auto, using(crate::proofs::Halves::puts_seat_at, crate::proofs::Seated::seated_more, crate::proofs::Idle::idle_more, crate::proofs::TableTotals::length_table))]
+    #[tactic(auto, using(crate::proofs::Halves::puts_seat_at, crate::proofs::Seated::seated_more, crate::proofs::TableTotals::length_table))]
     fn add(&mut self, declared: u32) -> Result<(), Refusal>
         requires { count_of self.old < 16 }
         ensures { IsSeated self.old declared self.new result }
@@ -69,7 +66,6 @@ impl GroupSeats {
     }
 
     /// Takes what a seat, numbered from 1, reports at the target of a range.
-    #[tactic(auto, using(crate::proofs::Reported::takes_report, crate::proofs::Reported::idle_reported))]
     pub(crate) fn report(
         &mut self,
         range: Range,
@@ -85,7 +81,7 @@ impl GroupSeats {
     }
 
     /// Each seat's state after a verdict.
-    #[tactic(auto, using(crate::proofs::After::seated_after, crate::proofs::Idle::idle_after))]
+    #[tactic(auto, using(crate::proofs::After::seated_after))]
     pub(crate) fn advance(&mut self, verdict: GroupVerdict)
         ensures seats { seats_of self.new ≡ map (seat_after verdict) (seats_of self.old) }
         ensures total { total_of self.new ≡ total_of self.old }

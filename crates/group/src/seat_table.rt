@@ -1,4 +1,4 @@
-ghost use Rattle.std.specs.Prelude.{◌≡◌, ◌≤◌, ◌+◌, ℕ, List, length, slice_get, slice_set, ◌*◌, replicate, take};
+ghost use Rattle.std.specs.Prelude.{◌≡◌, ◌≤◌, ◌+◌, ℕ, List, length, ◌*◌, replicate, take};
 ghost use Rattle.elements.specs.Limits.{longest_list};
 ghost use Rattle.std.specs.Borrow.{sem};
 ghost use Rattle.group.specs.Halves.{half, LendsHalf, seat_at, LendsSeat};

@@ -10,7 +10,7 @@ pub(crate) struct Totals {
 }
 
 impl Totals {
-    /// What no state adds up to.
+    /// The totals of no states: nothing given, and sums of 0.
     pub(crate) fn none() -> Totals
         ensures { result ≡ record { given = 0; below = 0; above = 0 } }
     {

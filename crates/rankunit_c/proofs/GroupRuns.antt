@@ -21,22 +21,23 @@ use Rattle.rankunit.specs.Runs.declared.refused.Refused.{Refused}
 use Rattle.rankunit.specs.Runs.declared.slip.Slip.{Slip}
 use Rattle.rankunit.specs.Runs.declared.stage.Closing.{Closing}
 use Rattle.rankunit.specs.Runs.declared.stage.Comparing.{Comparing}
-use Rattle.rankunit_c.specs.GroupRounds.{ReportsFrom, Plays}
+use Rattle.rankunit_c.specs.declared.measure.TheConstants.{STOCK}
+use Rattle.rankunit_c.specs.GroupRounds.{ReportsFrom, PlaysRound}
 use Rattle.rankunit_c.specs.Measures.{Finds, FoundUnless, ComesTo, IsGroupRun, delay_place, lowest, highest}
 use Rattle.rankunit_c.proofs.GroupReports.{ListsFrom, ReportedBelow, ReportsCome, reports_come}
 use Rattle.rankunit_c.proofs.HonestGroups.{same, HonestGroup, FirstIs, protocol, seats_are, Lawful, HonestHistory, lists_explain}
 use Rattle.rankunit_c.proofs.ShortSearches.{search_is_short}
 
 module _ {T : Type 0} (g : HonestGroup T) where
-  -- between rounds: the history so far is of honest reports, no seat has reported since, and each verdict is paid from a stock of 64
+  -- between rounds: the history so far is of honest reports, no seat has reported since, and each verdict is paid from the stock
   pub record Stands (run : Run T Comparing) (stock : ℕ) : Type 0 where
     pub past : GroupTrace T
     pub honestly : HonestHistory g past (going (StillComparing run))
     pub not_yet : (number : ℕ) → has_reported same number past ≡ false
-    pub paid : stock + length (verdicts past) ≡ 64
+    pub paid : stock + length (verdicts past) ≡ STOCK
 
   -- so a run stands at its start
-  pub stands_at_start : Stands g.opened.0 64
+  pub stands_at_start : Stands g.opened.0 STOCK
   stands_at_start = record {
     past = [];
     honestly = record { history = opened; reports = λ number. tt };
@@ -76,7 +77,7 @@ module _ {T : Type 0} (g : HonestGroup T) where
           reports_come g lawful 1 g.lists from stands.past run stands.honestly none answer left reports
 
       -- so a round that is refused is refused for a list, the first that is
-      pub round_refused : (j : ℕ) → g.hi - g.lo + 1 < 2 ^ j → j < 64 → (refused : Refused (Run T Comparing)) → Plays g.before g.place g.lists run stock (Err refused) →
+      pub round_refused : (j : ℕ) → g.hi - g.lo + 1 < 2 ^ j → j < STOCK → (refused : Refused (Run T Comparing)) → PlaysRound g.before g.place g.lists run stock (Err refused) →
           FirstIs g 1 g.lists (Some refused.fault)
       round_refused j small some refused (left, Err fault, reports, e) =
           let same_fault : fault ≡ refused.fault = cc in
@@ -95,7 +96,7 @@ module _ {T : Type 0} (g : HonestGroup T) where
         pub one_more : length (verdicts trace) ≡ length (verdicts stands.past) + 1
         pub none : FirstIs g 1 g.lists None
 
-      round_made : (advanced : Advanced T) → Plays g.before g.place g.lists run stock (Ok advanced) → RoundMade advanced.run
+      round_made : (advanced : Advanced T) → PlaysRound g.before g.place g.lists run stock (Ok advanced) → RoundMade advanced.run
       round_made advanced (left, Err fault, reports, e) = absurd cc
       round_made advanced (left, Ok u, reports, steps) =
           let all = round_comes (Ok u) left reports in
@@ -112,7 +113,7 @@ module _ {T : Type 0} (g : HonestGroup T) where
 
       -- a run that goes on stands as before
       pub stands_after : (advanced : Advanced T) (next : Run T Comparing) → advanced.run ≡ StillComparing next →
-          Plays g.before g.place g.lists run stock (Ok advanced) → (left : ℕ) → stock ≡ left + 1 → Stands next left
+          PlaysRound g.before g.place g.lists run stock (Ok advanced) → (left : ℕ) → stock ≡ left + 1 → Stands next left
       stands_after advanced next is plays left spent =
           let made = subst RoundMade is (round_made advanced plays) in
           record {
@@ -123,7 +124,7 @@ module _ {T : Type 0} (g : HonestGroup T) where
           }
 
       -- and one that is closing finds the element
-      pub finds_after : (advanced : Advanced T) (last : Run T Closing) → advanced.run ≡ NowClosing last → Plays g.before g.place g.lists run stock (Ok advanced) →
+      pub finds_after : (advanced : Advanced T) (last : Run T Closing) → advanced.run ≡ NowClosing last → PlaysRound g.before g.place g.lists run stock (Ok advanced) →
           (found : Found T) → Finishes g.place g.lowest g.highest g.sample (progress_of_run last) found →
           FirstIs g 1 g.lists None × Finds g.before g.place g.lo g.hi g.lists g.k found
       finds_after advanced last is plays found finishes =

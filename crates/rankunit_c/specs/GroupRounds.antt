@@ -22,17 +22,17 @@ module _ {T : Type 0} (before : T → T → Bool) (place : T → ℕ) where
       × Given call number old answer new
 
   -- once a report is accepted, the later ones follow
-  abbrev pub Follows : (earlier : Result (Unit {0}) RunFault) → (Later : Result (Unit {0}) RunFault → Type 0) → Run T Comparing →
+  abbrev pub OnceAccepted : (earlier : Result (Unit {0}) RunFault) → (Later : Result (Unit {0}) RunFault → Type 0) → Run T Comparing →
       Result (Unit {0}) RunFault → Run T Comparing → Type 0
-  Follows (Ok u) Later old answer new = Later answer
-  Follows (Err fault) Later old answer new = (answer ≡ Err fault) × (new ≡ old)
+  OnceAccepted (Ok u) Later old answer new = Later answer
+  OnceAccepted (Err fault) Later old answer new = (answer ≡ Err fault) × (new ≡ old)
 
   -- the seats of lists report in turn, numbered from a number on
   abbrev pub ReportsFrom : (number : ℕ) → List (List T) → Run T Comparing → Result (Unit {0}) RunFault → Run T Comparing → Type 0
   ReportsFrom number [] old answer new = (answer ≡ Ok tt) × (new ≡ old)
   ReportsFrom number (xs ∷ later) old answer new =
       (between : Run T Comparing) × (first : Result (Unit {0}) RunFault) × ReportsOne number xs old first between
-      × Follows first (λ last. ReportsFrom (number + 1) later between last new) between answer new
+      × OnceAccepted first (λ last. ReportsFrom (number + 1) later between last new) between answer new
 
   -- once all reports are accepted, the run steps
   abbrev pub StepsBy : (reported : Result (Unit {0}) RunFault) → Run T Comparing → (stock : ℕ) → Stepped T → Type 0
@@ -40,6 +40,6 @@ module _ {T : Type 0} (before : T → T → Bool) (place : T → ℕ) where
   StepsBy (Err fault) run stock result = result ≡ Err (record { fault = fault; given = run })
 
   -- a round
-  abbrev pub Plays : List (List T) → Run T Comparing → (stock : ℕ) → Stepped T → Type 0
-  Plays lists run stock result =
+  abbrev pub PlaysRound : List (List T) → Run T Comparing → (stock : ℕ) → Stepped T → Type 0
+  PlaysRound lists run stock result =
       (left : Run T Comparing) × (reported : Result (Unit {0}) RunFault) × ReportsFrom 1 lists run reported left × StepsBy reported left stock result

@@ -5,8 +5,8 @@ ghost use Rattle.rankunit.specs.Group.GroupCalls.{Opens, step_answer};
 ghost use Rattle.rankunit.specs.Group.GroupHistoryLaw.{HistoriesKeepLaw};
 ghost use Rattle.rankunit.specs.Referees.PlainStock.{plain_stock, FallsByOne};
 ghost use Rattle.rankunit.specs.Runs.Answers.{AsksOne};
-ghost use Rattle.rankunit_c.specs.GroupRounds.{ReportsOne, ReportsFrom, Plays};
-ghost use Rattle.rankunit_c.specs.Measures.{declared_lengths, delay_place, lowest, highest, IsGroupRun, outcome_of_run, IsMeasured};
+ghost use Rattle.rankunit_c.specs.GroupRounds.{ReportsOne, ReportsFrom, PlaysRound};
+ghost use Rattle.rankunit_c.specs.Measures.{declared_lengths, delay_place, lowest, highest, IsGroupRun, IsMeasured};
 ghost use Rattle.rankunit_c.specs.PartLists.{lists_of};
 
 use crate::outcome::{Outcome, found, refused};
@@ -77,7 +77,7 @@ fn round(
     referee: &mut Plain,
 ) -> Result<GroupAdvanced<Delay>, Refused<GroupRun<Delay, Comparing>>>
     requires { 1 + parts.now.number < 2 ^ 32 }
-    ensures plays { Plays delay_before delay_place (lists_of parts.now) run referee.old result }
+    ensures plays { PlaysRound delay_before delay_place (lists_of parts.now) run referee.old result }
     ensures asks { AsksOne plain_stock FallsByOne referee.old referee.new (step_answer result) }
 {
     match report_from(&mut run, 1, parts) {
