@@ -60,7 +60,7 @@ fn zeros<T: SheetElement>(heap: Global, length: Length) -> Result<Vec<u8>, Alloc
     let stated = body.saturating_add(1).saturating_add(length.overstated);
     let mut bytes = vec![in heap; 1]?;
     bytes.extend_from_slice(&stated.to_be_bytes())?;
-    bytes.push(T::kind().byte())?;
+    bytes.push(T::kind_byte())?;
     bytes.resize(6 + body as usize, 0)?;
     Ok(bytes)
 }

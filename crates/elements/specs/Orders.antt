@@ -14,15 +14,14 @@ Trichotomy {E} before = (x y : E) → ExactlyOne (before x y ≡ true) (before y
 abbrev pub Transitive : {E : Type 0} → (E → E → Bool) → Type 0
 Transitive {E} before = (x y z : E) → before x y ≡ true → before y z ≡ true → before x z ≡ true
 
--- both laws of an order
+-- the law of an ordered type: before is an order
 pub record IsOrder {E : Type 0} (before : E → E → Bool) : Type 0 where
   pub trichotomy : Trichotomy before
   pub transitive : Transitive before
 
--- the law of an ordered type: before is an order, and it is what the type's own comparison calls less
-pub record OrderLaw {E : Type 0} (before : E → E → Bool) (cmp : E → E → Ordering) : Type 0 where
-  pub order : IsOrder before
-  pub by_cmp : (x y : E) → before x y ≡ is_lt (cmp x y)
+-- before is what a comparison calls less
+abbrev pub BeforeIsLess : {E : Type 0} → (E → E → Bool) → (E → E → Ordering) → Type 0
+BeforeIsLess {E} before cmp = (x y : E) → before x y ≡ is_lt (cmp x y)
 
 -- one element is before another exactly if its place is smaller
 abbrev pub PlacesAgree : {E : Type 0} → (E → E → Bool) → (E → ℕ) → Type 0

@@ -1,6 +1,6 @@
 ghost use Rattle.std.specs.Prelude.{◌^◌, ◌<◌};
 
-use crate::ordered::{Ordered, sample_number};
+use crate::ordered::{Ordered, OrderedByCmp, sample_number};
 use crate::placed::Placed;
 use std::fmt;
 
@@ -23,16 +23,23 @@ impl Ordered for Delay {
 
     ghost sample = { delay_zero };
 
-    ghost law = { record {
-      order = record { trichotomy = trichotomy_by_places delay_before (λ x. x.micros) (λ x y. refl) delay_alike; transitive = Prim.search rules };
-      by_cmp = Prim.search rules;
-    } };
+    ghost law = { record { trichotomy = trichotomy_by_places delay_before (λ x. x.micros) (λ x y. refl) delay_alike; transitive = Prim.search rules } };
+
+    fn is_before(self, other: Delay) -> bool {
+        self < other
+    }
 
     fn sample() -> Delay {
         Delay {
             micros: sample_number(),
         }
     }
+}
+
+impl OrderedByCmp for Delay {
+    ghost use Rattle.std.proofs.Common.{rules};
+
+    ghost by_cmp = { Prim.search rules };
 }
 
 impl Placed for Delay {

@@ -4,7 +4,7 @@ ghost use Rattle.elements.specs.declared.entry.Entry.TheVariants.{Below, Element
 ghost use Rattle.elements.specs.EntryLaws.{entries_trichotomy, entries_transitive};
 ghost use Rattle.elements.specs.Printing.{entry_text};
 
-use crate::ordered::Ordered;
+use crate::ordered::{Ordered, OrderedByCmp};
 use std::fmt;
 
 /// What a row holds at a place: an element, or a mark that is below or above every element.
@@ -21,18 +21,30 @@ impl<T: Ordered> Ordered for Entry<T> {
 
     ghost sample = { Element T.Ordered.sample };
 
-    ghost law = { record {
-      order = record { trichotomy = entries_trichotomy T.Ordered.before T.Ordered.law.order.trichotomy; transitive = entries_transitive T.Ordered.before T.Ordered.law.order.transitive };
-      by_cmp = elim [
-        | Below ↦ elim [ Below ↦ refl | Element y ↦ refl | Above ↦ refl ]
-        | Element x ↦ elim [ Below ↦ refl | Element y ↦ T.Ordered.law.by_cmp x y | Above ↦ refl ]
-        | Above ↦ elim [ Below ↦ refl | Element y ↦ refl | Above ↦ refl ]
-      ];
-    } };
+    ghost law = { record { trichotomy = entries_trichotomy T.Ordered.before T.Ordered.law.trichotomy; transitive = entries_transitive T.Ordered.before T.Ordered.law.transitive } };
+
+    // Not by the derived `Ord`, which only entries of a type with an `Ord` have.
+    fn is_before(self, other: Entry<T>) -> bool {
+        match (self, other) {
+            (Entry::Element(x), Entry::Element(y)) => x.is_before(y),
+            (Entry::Below, Entry::Below) => false,
+            (Entry::Below, _) => true,
+            (Entry::Element(_), Entry::Above) => true,
+            _ => false,
+        }
+    }
 
     fn sample() -> Entry<T> {
         Entry::Element(T::sample())
     }
+}
+
+impl<T: OrderedByCmp> OrderedByCmp for Entry<T> {
+    ghost by_cmp = { elim [
+      | Below ↦ elim [ Below ↦ refl | Element y ↦ refl | Above ↦ refl ]
+      | Element x ↦ elim [ Below ↦ refl | Element y ↦ T.OrderedByCmp.by_cmp x y | Above ↦ refl ]
+      | Above ↦ elim [ Below ↦ refl | Element y ↦ refl | Above ↦ refl ]
+    ] };
 }
 
 impl<T: Ordered> Entry<T> {
@@ -40,7 +52,7 @@ impl<T: Ordered> Entry<T> {
     pub fn lesser(self, other: Entry<T>) -> Entry<T>
         ensures { result ≡ lesser_entry T.Ordered.before self other }
     {
-        other.min(self)
+        if self.is_before(other) { self } else { other }
     }
 }
 

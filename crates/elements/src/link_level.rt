@@ -1,6 +1,6 @@
 ghost use Rattle.std.specs.Prelude.{◌-◌, ◌^◌, ◌<◌, pos, negsuc, ◌≤ℤ◌};
 
-use crate::ordered::{Ordered, sample_number};
+use crate::ordered::{Ordered, OrderedByCmp, sample_number};
 use crate::placed::Placed;
 use std::cmp::Ordering;
 use std::fmt;
@@ -63,10 +63,11 @@ impl Ordered for LinkLevel {
 
     ghost sample = { level_zero };
 
-    ghost law = { record {
-      order = record { trichotomy = trichotomy_by_places level_before level_place level_agrees level_apart; transitive = transitive_by_places level_before level_place level_agrees };
-      by_cmp = Prim.search rules;
-    } };
+    ghost law = { record { trichotomy = trichotomy_by_places level_before level_place level_agrees level_apart; transitive = transitive_by_places level_before level_place level_agrees } };
+
+    fn is_before(self, other: LinkLevel) -> bool {
+        self < other
+    }
 
     fn sample() -> LinkLevel {
         LinkLevel {
@@ -74,6 +75,12 @@ impl Ordered for LinkLevel {
             link: sample_number(),
         }
     }
+}
+
+impl OrderedByCmp for LinkLevel {
+    ghost use Rattle.std.proofs.Common.{rules};
+
+    ghost by_cmp = { Prim.search rules };
 }
 
 impl Placed for LinkLevel {

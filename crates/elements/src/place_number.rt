@@ -2,7 +2,7 @@ ghost use Rattle.std.specs.Prelude.{◌≡◌, nat_lt};
 ghost use Rattle.elements.specs.ByPlaces.{numbers_transitive, numbers_trichotomy};
 ghost use Rattle.std.proofs.Common.{rules};
 
-use crate::ordered::{Ordered, sample_number};
+use crate::ordered::{Ordered, OrderedByCmp, sample_number};
 
 /// Place numbers are an ordered type, so that entries of places compare as entries of any other type do.
 impl Ordered for u64 {
@@ -10,12 +10,17 @@ impl Ordered for u64 {
 
     ghost sample = { 0 };
 
+    fn is_before(self, other: u64) -> bool {
+        self < other
+    }
+
     fn sample() -> u64 {
         sample_number() as u64
     }
 
-    ghost law = { record {
-      order = record { trichotomy = λ x y. numbers_trichotomy x y (x ≡ y) (λ e. e) (λ e. e); transitive = numbers_transitive };
-      by_cmp = Prim.search rules;
-    } };
+    ghost law = { record { trichotomy = λ x y. numbers_trichotomy x y (x ≡ y) (λ e. e) (λ e. e); transitive = numbers_transitive } };
+}
+
+impl OrderedByCmp for u64 {
+    ghost by_cmp = { Prim.search rules };
 }

@@ -6,3 +6,4 @@ pub mod WorkedGroups
 pub mod Cases
 pub mod ForbiddenPairTraces
 pub mod ForbiddenGroupTraces
+pub mod OwnType

@@ -85,7 +85,8 @@ three_delays = Delays (record {
 
 pub record Lines : Type 0 where
   pub of_sheet : fault_line (run_info (OfSeat (OfSheet (record { refusal = OutOfOrder 3; seat = Some B })))) ≡ codes "refused 6 sheet B 3"
-  pub of_seat : fault_line (run_info (OfSeat (Own (OutsideRange 4294967297) (Some (Numbered 16))))) ≡ codes "refused 12 seat 16 4294967297"
+  pub of_seat : fault_line (run_info (OfSeat (Own (OutsideRange 2) (Some (Numbered 16))))) ≡ codes "refused 12 seat 16 2"
+  pub of_far_spot : fault_line (run_info (OfSeat (Own (OutsideRange 4294967297) (Some (Numbered 16))))) ≡ codes "refused 12 seat 16 4294967297"
   pub of_run : fault_line (run_info (OwnRun Impossible (Some A))) ≡ codes "refused 14 run A -"
   pub of_rank_call : fault_line (run_info (OwnRun RankOutOfBounds None)) ≡ codes "refused 11 run - -"
   pub of_empty_list : sheet_summary_text (Delays (record { count = 0; highlights = None })) ≡ Some (codes "kind: delays\nelements: 0 (the list is empty)")

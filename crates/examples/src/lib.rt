@@ -3,6 +3,7 @@
 
 pub mod fault_conversion;
 pub mod forbidden;
+pub mod own_type;
 #[cfg(test)]
 mod tests;
 pub mod worked;

@@ -1,3 +1,4 @@
+use crate::own_type::Hops;
 use elements::delay::Delay;
 use elements::entry::Entry;
 use elements::link_level::LinkLevel;
@@ -10,10 +11,12 @@ use referees::pile::{PileNumbers, play_on_loan};
 use referees::plain::Plain;
 use referees::play::Line;
 use referees::question::Question;
-use referees::referee::Stocked;
+use referees::referee::{Stocked, ask_first};
 use referees::shares::Shares;
 use referees::spare::Spare;
 use referees::strip::Strip;
+use referees::verdict::PairVerdict;
+use sheets::reader::read_sheet;
 use sheets::sheet_summary::check_sheet;
 use std::alloc::{AllocError, Global};
 use std::test::Fail;
@@ -48,13 +51,18 @@ fn marks_stand_outside_every_element(rt: HostRuntime) {
 
 #[test]
 fn a_fault_keeps_its_line(rt: HostRuntime) -> Result<(), Fail> {
-    let sheet = SheetFault {
-        refusal: Refusal::OutOfOrder(4_294_967_297),
-        seat: Some(Seat::B),
-    };
-    let run = RunFault::OfSeat(SeatFault::OfSheet(sheet));
-    let line = run.to_string(rt.alloc())?;
-    assert_eq!(rt; line.as_str(), "refused 6 sheet B 4294967297");
+    for (spot, said) in [
+        (3, "refused 6 sheet B 3"),
+        (4_294_967_297, "refused 6 sheet B 4294967297"),
+    ] {
+        let sheet = SheetFault {
+            refusal: Refusal::OutOfOrder(spot),
+            seat: Some(Seat::B),
+        };
+        let run = RunFault::OfSeat(SeatFault::OfSheet(sheet));
+        let line = run.to_string(rt.alloc())?;
+        assert_eq!(rt; line.as_str(), said);
+    }
     Ok(())
 }
 
@@ -122,4 +130,27 @@ fn more_than_32_bits_are_told_as_the_greatest_number(rt: HostRuntime) {
     assert_eq!(rt; most.left(), u32::MAX);
     let spared = Spare::new(most, Plain::new(1));
     assert_eq!(rt; spared.left(), u32::MAX);
+}
+
+#[test]
+fn a_type_of_ones_own_is_read_and_compared(rt: HostRuntime) {
+    let mut list = [Hops { number: 1 }; 3];
+    let falls = Err(SheetFault {
+        refusal: Refusal::OutOfOrder(2),
+        seat: None,
+    });
+    assert_eq!(rt;
+        read_sheet(b"\x01\0\0\0\x09\x09\0\0\0\x02\0\0\0\x07", None, &mut list),
+        falls
+    );
+    assert_eq!(rt;
+        read_sheet(b"\x01\0\0\0\x09\x09\0\0\0\x07\0\0\0\x02", None, &mut list),
+        Ok(2)
+    );
+    assert_eq!(rt; list, [7, 2, 1].map(|number| Hops { number }));
+    let [more, fewer] = [7, 2].map(|number| Entry::Element(Hops { number }));
+    assert_eq!(rt;
+        ask_first(&mut Plain::new(1), more, fewer),
+        Ok(PairVerdict::Before)
+    );
 }

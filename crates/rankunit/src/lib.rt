@@ -7,7 +7,7 @@ pub use elements::delay::Delay;
 pub use elements::entry::Entry;
 pub use elements::limits::LONGEST_LIST;
 pub use elements::link_level::LinkLevel;
-pub use elements::ordered::Ordered;
+pub use elements::ordered::{Ordered, OrderedByCmp};
 pub use elements::placed::Placed;
 pub use elements::rank::{median_rank, percentile_rank};
 
@@ -29,7 +29,7 @@ pub use referees::verdict::{GroupVerdict, PairVerdict};
 
 // Questions as values, played in turn to a referee or to a pile of them.
 pub use referees::pile::{PileNumbers, play_on_pile};
-pub use referees::play::{Line, Tally, play};
+pub use referees::play::{Line, Outcome, Tally, play};
 pub use referees::question::{Answer, Question, ask};
 
 // Runs: their stages, the slip that a run is ended with, what a finished one hands out, and what a refused call gives back.
@@ -60,7 +60,7 @@ pub use seats::pair_seat::report_of_pair;
 // Sheets: lists as bytes, read into a slice or summed up.
 pub use sheets::kind::{Kind, UnknownKind};
 pub use sheets::reader::read_sheet;
-pub use sheets::sheet_element::SheetElement;
+pub use sheets::sheet_element::{OfNamedKind, SheetElement};
 pub use sheets::sheet_summary::{SheetSummary, check_sheet};
 pub use sheets::summary::{AtRank, Highlights, Summary, summarize};
 

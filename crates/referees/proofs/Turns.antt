@@ -8,7 +8,7 @@ use Rattle.elements.specs.Limits.{saturated}
 use Rattle.referees.specs.declared.play.Line.{Line}
 use Rattle.referees.specs.declared.question.Answer.{Answer}
 use Rattle.referees.specs.declared.question.Question.{Question}
-use Rattle.referees.specs.Plays.{line_at, answered_outcome, PaidFor, SpendsEach, one_more}
+use Rattle.referees.specs.Plays.{line_at, answered_outcome, PaidFor, SpendsEach, nothing_asked, one_more}
 use Rattle.referees.specs.Truths.{truth_of}
 
 -- the lines before i are played, and those from i on are as they were
@@ -92,3 +92,8 @@ module _ {R E : Type 0} (spends : R → R → Type 0) where
       PaidFor spends old new outcome → false ≡ answered_outcome outcome → then ≡ answered → SpendsEach spends start then new
   spends_no_more {start} {old} {new} {answered} {then} outcome each paid is as_many =
       subst (SpendsEach spends start then) (sym (same_if_refused old new outcome paid is)) (subst (λ (n : ℕ). SpendsEach spends start n old) (sym as_many) each)
+
+-- where no question is answered, the referee is as it was
+pub none_spent : {R : Type 0} {spends : R → R → Type 0} {old new : R} {answered : ℕ} → SpendsEach spends old answered new → answered ≡ 0 → new ≡ old
+none_spent nothing_asked none = refl
+none_spent (one_more each paid) none = absurd (omega (arith, none))

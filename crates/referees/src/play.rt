@@ -1,6 +1,6 @@
 ghost use Rattle.std.specs.Prelude.{◌≡◌, ◌-◌};
 ghost use Rattle.referees.specs.Plays.{answered_outcome, new_line, line_at, Played, PaidFor, SpendsEach};
-ghost use Rattle.referees.specs.PlayPrinting.{line_text};
+ghost use Rattle.referees.specs.PlayPrinting.{line_text, outcome_text};
 
 use crate::question::{Answer, Question, ask};
 use crate::referee::Referee;
@@ -16,6 +16,10 @@ pub struct Line<T> {
     // Beside the outcome and not in it, since an unasked line prints its 0 as well.
     pub left: u32,
 }
+
+/// What came of a line's question, by itself, as it is printed: nothing yet, the answer, or why it was refused.
+#[derive(Clone, Copy)]
+pub struct Outcome<'a, T>(pub &'a Option<Result<Answer<T>, RunFault>>);
 
 /// What came of a whole play: how many questions were answered, and how many the referee has left.
 #[derive(Clone, Copy)]
@@ -43,6 +47,18 @@ impl<T> Line<T> {
     }
 }
 
+impl<'a, T: fmt::Display> fmt::Display for Outcome<'a, T> {
+    ghost output = { λ outcome. outcome_text T.Display.output outcome.0.now };
+
+    fn fmt<W: fmt::Write>(&self, f: &mut fmt::Formatter<W>) -> fmt::Result {
+        match self.0 {
+            None => write!(f, "not asked"),
+            Some(Ok(answer)) => write!(f, "{answer}"),
+            Some(Err(fault)) => write!(f, "{fault}"),
+        }
+    }
+}
+
 impl<T: fmt::Display> fmt::Display for Line<T> {
     ghost output = { line_text T.Display.output };
 
@@ -52,11 +68,8 @@ impl<T: fmt::Display> fmt::Display for Line<T> {
             outcome,
             left,
         } = self;
-        match outcome {
-            None => write!(f, "{question}: not asked, left {left}"),
-            Some(Ok(answer)) => write!(f, "{question}: {answer}, left {left}"),
-            Some(Err(fault)) => write!(f, "{question}: {fault}, left {left}"),
-        }
+        let outcome = Outcome(outcome);
+        write!(f, "{question}: {outcome}, left {left}")
     }
 }
 
@@ -64,6 +77,7 @@ impl<T: fmt::Display> fmt::Display for Line<T> {
 pub fn ask_line<T: Ordered, R: Referee<T>>(referee: &mut R, question: Question<T>) -> Line<T>
     ensures line { result ≡ line_at T.Ordered.before (R.Stocked.stock referee.old) 0 question }
     ensures cost { R.Stocked.stock referee.new ≡ R.Stocked.stock referee.old - 1 }
+    ensures empty_stays { R.Stocked.stock referee.old ≡ 0 → referee.new ≡ referee.old }
     ensures spends { PaidFor R.Referee.spends referee.old referee.new result.outcome }
 {
     Line {
@@ -77,6 +91,7 @@ pub fn ask_line<T: Ordered, R: Referee<T>>(referee: &mut R, question: Question<T
 /// question is refused, the lines before it keep their answers, the referee stays as these have left it, and the play goes
 /// on to the next line.
 pub fn play<T: Ordered, R: Referee<T>>(referee: &mut R, lines: &mut [Line<T>]) -> Tally
+    ensures empty_stays { R.Stocked.stock referee.old ≡ 0 → referee.new ≡ referee.old }
     ensures played { Played T.Ordered.before (R.Stocked.stock referee.old) (R.Stocked.stock referee.new) lines.old lines.new result }
     ensures spends { SpendsEach R.Referee.spends referee.old result.answered referee.new }
 {

@@ -54,8 +54,9 @@ fn check_whole(heap: Global, bytes: &[u8]) -> Result<Result<SheetSummary, SheetF
     Ok(check_sheet(bytes, &mut delays, &mut levels))
 }
 
-/// Answers an input: whole, as a sheet of either kind, if it has at most so many bytes.
-fn answer_up_to<R: Read + Drop>(heap: Global, input: R, most: u32) -> io::Result<InputAnswer>
+/// Answers an input: whole, as a sheet of either kind, if it has at most so many bytes. An error says whether reading or room for
+/// the lists was wanting.
+fn answer_up_to<R: Read + Drop>(heap: Global, input: R, most: u32) -> anyhow::Result<InputAnswer>
     ensures { IfSome (R.remaining input) (λ xs. IfOk result (AnswersInput most xs)) }
 {
     let bytes = read_input(heap, input, most)?;
@@ -66,7 +67,7 @@ fn answer_up_to<R: Read + Drop>(heap: Global, input: R, most: u32) -> io::Result
 }
 
 /// Answers an input: whole, as a sheet of either kind, if it has at most `MOST_BYTES`. A longer one is read for one byte more.
-pub fn answer_input<R: Read + Drop>(heap: Global, input: R) -> io::Result<InputAnswer>
+pub fn answer_input<R: Read + Drop>(heap: Global, input: R) -> anyhow::Result<InputAnswer>
     ensures { IfSome (R.remaining input) (λ xs. IfOk result (AnswersInput most_bytes xs)) }
 {
     answer_up_to(heap, input, MOST_BYTES)

@@ -20,7 +20,7 @@ median: 0 link 0 (rank 32768)
 highest: 0 link 0 (rank 65536)";
 
 /// The line that answers a sheet of the kind, with the count stated, whose body is so many zeros.
-fn answer_line(rt: &HostRuntime, kind: u8, stated: u32, body: u64) -> io::Result<String> {
+fn answer_line(rt: &HostRuntime, kind: u8, stated: u32, body: u64) -> anyhow::Result<String> {
     let [a, b, c, d] = stated.to_be_bytes();
     let header = [1, a, b, c, d, kind];
     let sheet = header.as_slice().chain(io::repeat(0).take(body));

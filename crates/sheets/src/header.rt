@@ -24,7 +24,7 @@ pub(crate) fn check_header<T: SheetElement>(bytes: &[u8]) -> Result<Body<'_, T>,
     if u32::from_be_bytes([*a, *b, *c, *d]) as usize != bytes.len() - 5 {
         return Err(Refusal::CountDiffers);
     }
-    if *kind != T::kind().byte() {
+    if *kind != T::kind_byte() {
         return Err(Refusal::KindNotWanted);
     }
     if body.len() % T::BYTES_EACH != 0 || body.len() / T::BYTES_EACH > LONGEST_LIST as usize {

@@ -14,9 +14,9 @@ use elements::ordered::Ordered;
 pub trait SheetElement: Ordered {
     ghost format: { Format Self };
 
-    /// The kind of the sheets of this type.
-    fn kind() -> Kind
-        ensures { byte_of result ≡ format.kind };
+    /// The byte that names the kind of the sheets of this type. It may be any, so that a type can have a kind of its own.
+    fn kind_byte() -> u8
+        ensures { result ≡ format.kind };
 
     /// How many bytes an element has.
     const BYTES_EACH: usize;
@@ -29,6 +29,19 @@ pub trait SheetElement: Ordered {
         ensures { Decoded format bytes.now result };
 
     ghost law: { FormatLaw format BYTES_EACH };
+}
+
+/// A type whose sheets are of one of the kinds that have names.
+pub trait OfNamedKind: SheetElement {
+    /// The kind of the sheets of this type.
+    fn kind() -> Kind
+        ensures { byte_of result ≡ Self.SheetElement.format.kind };
+}
+
+impl OfNamedKind for Delay {
+    fn kind() -> Kind {
+        Kind::Delays
+    }
 }
 
 impl SheetElement for Delay {
@@ -53,8 +66,8 @@ impl SheetElement for Delay {
       complete = λ bytes e h. (record { micros = first_four bytes; fits = first_four_fits bytes h }, digits_of_list bytes e h);
     } };
 
-    fn kind() -> Kind {
-        Kind::Delays
+    fn kind_byte() -> u8 {
+        Self::kind().byte()
     }
 
     fn decode(bytes: &[u8]) -> Option<Delay> {
@@ -71,6 +84,12 @@ fn level_of(level: [u8; 4], link: [u8; 4]) -> LinkLevel
     LinkLevel {
         level: i32::from_be_bytes(level),
         link: u32::from_be_bytes(link),
+    }
+}
+
+impl OfNamedKind for LinkLevel {
+    fn kind() -> Kind {
+        Kind::LinkLevels
     }
 }
 
@@ -95,8 +114,8 @@ impl SheetElement for LinkLevel {
       complete = level_of_bytes;
     } };
 
-    fn kind() -> Kind {
-        Kind::LinkLevels
+    fn kind_byte() -> u8 {
+        Self::kind().byte()
     }
 
     fn decode(bytes: &[u8]) -> Option<LinkLevel> {

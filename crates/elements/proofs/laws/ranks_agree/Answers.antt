@@ -6,7 +6,7 @@ use Rattle.elements.proofs.laws.ranks_agree.Goals as goal
 pub returns : goal.returns
 returns g c =
     let before = g.T.Ordered.before in
-    let o : IsOrder before = g.met.T.Ordered.law.order in
+    let o : IsOrder before = g.met.T.Ordered.law in
     record {
       ordering = record {
         never_falls = in_order_never_falls o;

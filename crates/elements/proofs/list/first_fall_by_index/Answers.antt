@@ -8,4 +8,4 @@ loop-i-preserved g c = λ xs read.
     (λ d. read.at _ _ d (omega arith) c.at.ensures) (λ d. read.at _ _ d (omega arith) c.at-in-loop-i.ensures) (cc)
 
 pub returns : goal.returns
-returns g c = λ xs read. never_falls g.T.Ordered.before xs g.met.T.Ordered.law.order c.loop-i.i (omega (arith, read.long)) (c.loop-i.invariant xs read)
+returns g c = λ xs read. never_falls g.T.Ordered.before xs g.met.T.Ordered.law c.loop-i.i (omega (arith, read.long)) (c.loop-i.invariant xs read)

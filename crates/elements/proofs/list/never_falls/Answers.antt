@@ -12,4 +12,4 @@ loop-i-preserved g c = λ so_far xs read.
 
 pub returns : goal.returns
 returns g c so_far xs read =
-    never_falls g.T.Ordered.before xs g.met.T.Ordered.law.order c.loop-i.i (omega (arith, read.long)) (c.loop-i.invariant so_far xs read)
+    never_falls g.T.Ordered.before xs g.met.T.Ordered.law c.loop-i.i (omega (arith, read.long)) (c.loop-i.invariant so_far xs read)

@@ -21,5 +21,5 @@ returns c = record {
     repeats_kept = record { first = lit≤ tt; last = lit≤ tt; is = λ d. refl };
   };
   percentiles = record { median_of_11 = refl; median_of_none = refl; fiftieth_of_11 = refl; raised_to_1 = refl; ninetieth_of_6 = refl; hundredth = refl };
-  lines = record { of_sheet = refl; of_seat = refl; of_run = refl; of_rank_call = refl; of_empty_list = refl; of_report = refl };
+  lines = record { of_sheet = refl; of_seat = refl; of_far_spot = refl; of_run = refl; of_rank_call = refl; of_empty_list = refl; of_report = refl };
 }

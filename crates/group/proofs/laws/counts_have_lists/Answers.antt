@@ -15,5 +15,5 @@ returns-clause-honest g c = honest_is_possible g.T.Placed.place g.T.Placed.LOWES
 
 pub returns-clause-finished : goal.returns-clause-finished
 returns-clause-finished g c =
-    let order : IsOrder g.T.Ordered.before = g.met.T.Ordered.law.order in
+    let order : IsOrder g.T.Ordered.before = g.met.T.Ordered.law in
     every_finished_is_search g.T.Placed.place order g.met.T.Placed.law.agrees g.T.Placed.LOWEST g.T.Placed.HIGHEST g.met.T.Placed.law.complete

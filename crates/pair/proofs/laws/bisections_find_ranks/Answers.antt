@@ -9,7 +9,7 @@ use Rattle.pair.proofs.laws.bisections_find_ranks.Goals as goal
 pub returns : goal.returns
 returns g c =
     let before = g.T.Ordered.before in
-    let o : IsOrder before = g.met.T.Ordered.law.order in
+    let o : IsOrder before = g.met.T.Ordered.law in
     record {
       finds = bisection_finds_rank o;
       verdicts = record {

@@ -8,7 +8,7 @@ use Rattle.pair.proofs.laws.reports_have_lists.Goals as goal
 pub returns : goal.returns
 returns g c =
     let before = g.T.Ordered.before in
-    let o : IsOrder before = g.met.T.Ordered.law.order in
+    let o : IsOrder before = g.met.T.Ordered.law in
     record {
       explained = explained_if_consistent o g.T.Ordered.sample;
       nearest = nearest_places_decide o;

@@ -1,6 +1,6 @@
 use Rattle.std.proofs.Common.{arith, rules}
 use Rattle.referees.specs.Plays.{nothing_asked}
-use Rattle.referees.proofs.Turns.{turn, answered_below, refused_from, spends_once_more, spends_no_more}
+use Rattle.referees.proofs.Turns.{turn, answered_below, refused_from, spends_once_more, spends_no_more, none_spent}
 use Rattle.referees.proofs.play.play.Goals as goal
 use Rattle.referees.proofs.play.play.Goals.{then-is_answered, else-is_answered}
 
@@ -22,3 +22,8 @@ loop-line-preserved g c =
         | else-is_answered w ↦ spends_no_more _ _ inv.spends c.ask_line.ensures.spends w.if-is_answered.ensures w.answered-is
       ];
     }
+
+pub returns-clause-empty_stays : goal.returns-clause-empty_stays
+returns-clause-empty_stays g c = λ empty.
+    let inv = c.loop-line.invariant in
+    none_spent inv.spends (omega (arith, inv.answered, empty))

@@ -19,7 +19,7 @@ use Rattle.seats.proofs.honest_run.find_rank.Goals as goal
 
 pub returns-in_err-stage-clause-plays : goal.returns-in_err-stage-clause-plays
 returns-in_err-stage-clause-plays g c =
-    let order : IsOrder g.T.Ordered.before = g.met.T.Ordered.law.order in
+    let order : IsOrder g.T.Ordered.before = g.met.T.Ordered.law in
     let lists = by_side c.args.a.now c.args.b.now in
     let stock = g.R.Stocked.stock c.args.referee.now in
     let fault = c.in_err-stage.field-0.0 in
@@ -30,7 +30,7 @@ returns-in_err-stage-clause-plays g c =
 
 pub loop-stage-init : goal.loop-stage-init
 loop-stage-init g c =
-    let order : IsOrder g.T.Ordered.before = g.met.T.Ordered.law.order in
+    let order : IsOrder g.T.Ordered.before = g.met.T.Ordered.law in
     let opened = run_opened (by_side c.args.a.now c.args.b.now) c.declared.result c.declared-2.result c.declared.ensures c.declared-2.ensures
     c.args.rank order c.in_ok-stage.stage c.in_ok-stage.slip c.in_ok-stage.ensures.opens c.in_ok-stage.ensures.lawful in
     record {

@@ -11,13 +11,13 @@ returns-in_err-body g c =
     let b : Bytes c.args.bytes.now = λ i. omega (arith, c.type_inv.bytes i) in
     let p = err_from_is_err_and c.from_residual.result c.from_residual.ensures.1 in
     rw (p.1, p.2)
-    (header_refuses g.T.Ordered.before g.T.SheetElement.format g.met.T.Ordered.law.order g.met.T.SheetElement.law c.args.bytes.now _ b _ c.in_err-body.ensures.refused, refl {a = c.args.list.now})
+    (header_refuses g.T.Ordered.before g.T.SheetElement.format g.met.T.Ordered.law g.met.T.SheetElement.law c.args.bytes.now _ b _ c.in_err-body.ensures.refused, refl {a = c.args.list.now})
 
 pub returns : goal.returns
 returns g c =
     let before = g.T.Ordered.before in
     let f = g.T.SheetElement.format in
-    let order = g.met.T.Ordered.law.order in
+    let order = g.met.T.Ordered.law in
     let law = g.met.T.SheetElement.law in
     let bytes = c.args.bytes.now in
     let b : Bytes bytes = λ i. omega (arith, c.type_inv.bytes i) in
@@ -38,7 +38,7 @@ pub returns-in-Some : goal.returns-in-Some
 returns-in-Some g c =
     let bytes = c.args.bytes.now in
     let b : Bytes bytes = λ i. omega (arith, c.type_inv.bytes i) in
-    let found = fall_found g.T.Ordered.before g.T.SheetElement.format g.met.T.Ordered.law.order g.met.T.SheetElement.law bytes (length c.args.list.now) b
+    let found = fall_found g.T.Ordered.before g.T.SheetElement.format g.met.T.Ordered.law g.met.T.SheetElement.law bytes (length c.args.list.now) b
     (Some c.in-Some.number) (λ xs e. c.in-Some.ensures xs (e ∙ sym c.in_ok-body.ensures.body)) in
     ((Some c.in-Some.number, found, search rules), refl {a = c.args.list.now})
 
@@ -46,6 +46,6 @@ pub returns-then-list-len : goal.returns-then-list-len
 returns-then-list-len g c =
     let bytes = c.args.bytes.now in
     let b : Bytes bytes = λ i. omega (arith, c.type_inv.bytes i) in
-    let found = fall_found g.T.Ordered.before g.T.SheetElement.format g.met.T.Ordered.law.order g.met.T.SheetElement.law bytes (length c.args.list.now) b None
+    let found = fall_found g.T.Ordered.before g.T.SheetElement.format g.met.T.Ordered.law g.met.T.SheetElement.law bytes (length c.args.list.now) b None
     (λ xs e. c.in_default.ensures xs (e ∙ sym c.in_ok-body.ensures.body)) in
     ((None, found, search rules), refl {a = c.args.list.now})
