@@ -2,7 +2,7 @@
 use Rattle.std.specs.Prelude.{◌≡◌, ℕ, Bool, refl}
 use Rattle.std.proofs.lemmas.Bool.{false≢true}
 use Rattle.std.proofs.Common.{ap, inl, inr, ⊎_elim, arith}
-use Rattle.elements.specs.Orders.{Trichotomy, Transitive}
+use Rattle.elements.specs.Orders.{Trichotomy, Transitive, IsOrder}
 use Rattle.elements.specs.Entries.{entry_before}
 use Rattle.elements.specs.declared.entry.Entry.TheVariants.{Below, Element, Above}
 
@@ -40,3 +40,6 @@ module _ {E : Type 0} (before : E → E → Bool) where
   entries_transitive steps Above Below z p q = absurd (false≢true p)
   entries_transitive steps Above (Element y) z p q = absurd (false≢true p)
   entries_transitive steps Above Above z p q = absurd (false≢true p)
+
+  pub entries_order : IsOrder before → IsOrder (entry_before before)
+  entries_order order = record { trichotomy = entries_trichotomy order.trichotomy; transitive = entries_transitive order.transitive }

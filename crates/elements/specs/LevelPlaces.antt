@@ -4,7 +4,8 @@ use Rattle.std.proofs.Common.{sym, ap, ◌∙◌, arith}
 use Rattle.std.proofs.lemmas.Bool.Decides.{nat_tests}
 use Rattle.std.proofs.lemmas.Int.{ints}
 use Rattle.std.specs.Ordering.{nat_cmp}
-use Rattle.elements.specs.Orders.{PlacesAgree, OneElementEach}
+use Rattle.elements.specs.Orders.{IsOrder, PlacesAgree, OneElementEach}
+use Rattle.elements.specs.ByPlaces.{order_by_places}
 use Rattle.elements.specs.LinkLevels.{level_before, level_cmp, level_place}
 use Rattle.elements.specs.declared.link_level.LinkLevel.{LinkLevel}
 use Rattle.elements.specs.Alike.{made, level_alike}
@@ -26,6 +27,9 @@ pub level_apart : (x y : LinkLevel) → level_place x ≡ level_place y → x �
 level_apart x y e =
     let a = raised x in let b = raised y in let f = x.fits in let g = y.fits in
     level_alike x y (omega (arith, ints)) (omega (arith, ints))
+
+pub levels_order : IsOrder level_before
+levels_order = order_by_places level_before level_place level_agrees level_apart
 
 -- every number of 64 bits is a place
 pub level_at : (n : ℕ) → n < 2 ^ 64 → (x : LinkLevel) × (level_place x ≡ n)

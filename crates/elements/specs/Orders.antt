@@ -19,9 +19,10 @@ pub record IsOrder {E : Type 0} (before : E → E → Bool) : Type 0 where
   pub trichotomy : Trichotomy before
   pub transitive : Transitive before
 
--- before is what a comparison calls less
-abbrev pub BeforeIsLess : {E : Type 0} → (E → E → Bool) → (E → E → Ordering) → Type 0
-BeforeIsLess {E} before cmp = (x y : E) → before x y ≡ is_lt (cmp x y)
+-- the law of an ordered type that is compared by its `Ord`: before is an order, and it is what the type's own comparison calls less
+pub record OrderLaw {E : Type 0} (before : E → E → Bool) (cmp : E → E → Ordering) : Type 0 where
+  pub order : IsOrder before
+  pub by_cmp : (x y : E) → before x y ≡ is_lt (cmp x y)
 
 -- one element is before another exactly if its place is smaller
 abbrev pub PlacesAgree : {E : Type 0} → (E → E → Bool) → (E → ℕ) → Type 0

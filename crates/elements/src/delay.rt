@@ -13,17 +13,14 @@ pub struct Delay {
 }
 
 impl Ordered for Delay {
-    ghost use Rattle.std.specs.Prelude.{◌-◌, refl};
     ghost use Rattle.elements.specs.Delays.{delay_before, delay_zero};
-    ghost use Rattle.elements.specs.ByPlaces.{trichotomy_by_places};
-    ghost use Rattle.elements.specs.Alike.{delay_alike};
-    ghost use Rattle.std.proofs.Common.{rules};
+    ghost use Rattle.elements.specs.DelayPlaces.{delays_order};
 
     ghost before = { delay_before };
 
     ghost sample = { delay_zero };
 
-    ghost law = { record { trichotomy = trichotomy_by_places delay_before (λ x. x.micros) (λ x y. refl) delay_alike; transitive = Prim.search rules } };
+    ghost law = { delays_order };
 
     fn is_before(self, other: Delay) -> bool {
         self < other
@@ -38,8 +35,9 @@ impl Ordered for Delay {
 
 impl OrderedByCmp for Delay {
     ghost use Rattle.std.proofs.Common.{rules};
+    ghost use Rattle.elements.specs.DelayPlaces.{delays_order};
 
-    ghost by_cmp = { Prim.search rules };
+    ghost law = { record { order = delays_order; by_cmp = Prim.search rules } };
 }
 
 impl Placed for Delay {

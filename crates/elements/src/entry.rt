@@ -1,7 +1,7 @@
 ghost use Rattle.std.specs.Prelude.{refl, ◌≡◌};
 ghost use Rattle.elements.specs.Entries.{entry_before, lesser_entry};
 ghost use Rattle.elements.specs.declared.entry.Entry.TheVariants.{Below, Element, Above};
-ghost use Rattle.elements.specs.EntryLaws.{entries_trichotomy, entries_transitive};
+ghost use Rattle.elements.specs.EntryLaws.{entries_order};
 ghost use Rattle.elements.specs.Printing.{entry_text};
 
 use crate::ordered::{Ordered, OrderedByCmp};
@@ -21,7 +21,7 @@ impl<T: Ordered> Ordered for Entry<T> {
 
     ghost sample = { Element T.Ordered.sample };
 
-    ghost law = { record { trichotomy = entries_trichotomy T.Ordered.before T.Ordered.law.trichotomy; transitive = entries_transitive T.Ordered.before T.Ordered.law.transitive } };
+    ghost law = { entries_order T.Ordered.before T.Ordered.law };
 
     // Not by the derived `Ord`, which only entries of a type with an `Ord` have.
     fn is_before(self, other: Entry<T>) -> bool {
@@ -40,11 +40,14 @@ impl<T: Ordered> Ordered for Entry<T> {
 }
 
 impl<T: OrderedByCmp> OrderedByCmp for Entry<T> {
-    ghost by_cmp = { elim [
-      | Below ↦ elim [ Below ↦ refl | Element y ↦ refl | Above ↦ refl ]
-      | Element x ↦ elim [ Below ↦ refl | Element y ↦ T.OrderedByCmp.by_cmp x y | Above ↦ refl ]
-      | Above ↦ elim [ Below ↦ refl | Element y ↦ refl | Above ↦ refl ]
-    ] };
+    ghost law = { record {
+      order = entries_order T.Ordered.before T.Ordered.law;
+      by_cmp = elim [
+        | Below ↦ elim [ Below ↦ refl | Element y ↦ refl | Above ↦ refl ]
+        | Element x ↦ elim [ Below ↦ refl | Element y ↦ T.OrderedByCmp.law.by_cmp x y | Above ↦ refl ]
+        | Above ↦ elim [ Below ↦ refl | Element y ↦ refl | Above ↦ refl ]
+      ];
+    } };
 }
 
 impl<T: Ordered> Entry<T> {

@@ -53,17 +53,14 @@ impl PartialOrd for LinkLevel {
 }
 
 impl Ordered for LinkLevel {
-    ghost use Rattle.std.specs.Prelude.{◌-◌};
-    ghost use Rattle.std.proofs.Common.{rules};
-    ghost use Rattle.elements.specs.LinkLevels.{level_before, level_place, level_zero};
-    ghost use Rattle.elements.specs.ByPlaces.{trichotomy_by_places, transitive_by_places};
-    ghost use Rattle.elements.specs.LevelPlaces.{level_agrees, level_apart};
+    ghost use Rattle.elements.specs.LinkLevels.{level_before, level_zero};
+    ghost use Rattle.elements.specs.LevelPlaces.{levels_order};
 
     ghost before = { level_before };
 
     ghost sample = { level_zero };
 
-    ghost law = { record { trichotomy = trichotomy_by_places level_before level_place level_agrees level_apart; transitive = transitive_by_places level_before level_place level_agrees } };
+    ghost law = { levels_order };
 
     fn is_before(self, other: LinkLevel) -> bool {
         self < other
@@ -79,8 +76,9 @@ impl Ordered for LinkLevel {
 
 impl OrderedByCmp for LinkLevel {
     ghost use Rattle.std.proofs.Common.{rules};
+    ghost use Rattle.elements.specs.LevelPlaces.{levels_order};
 
-    ghost by_cmp = { Prim.search rules };
+    ghost law = { record { order = levels_order; by_cmp = Prim.search rules } };
 }
 
 impl Placed for LinkLevel {

@@ -1,5 +1,5 @@
 ghost use Rattle.std.specs.Prelude.{◌≡◌, Bool};
-ghost use Rattle.elements.specs.Orders.{IsOrder, BeforeIsLess};
+ghost use Rattle.elements.specs.Orders.{IsOrder, OrderLaw};
 
 /// A type whose elements stand in an order without ties: what is neither before nor after is equal.
 pub trait Ordered: Copy {
@@ -20,7 +20,7 @@ pub trait Ordered: Copy {
 
 /// An ordered type with an `Ord` of its own, which calls less what is before.
 pub trait OrderedByCmp: Ordered + Ord {
-    ghost by_cmp: { BeforeIsLess Self.Ordered.before Self.Ord.cmp };
+    ghost law: { OrderLaw Self.Ordered.before Self.Ord.cmp };
 }
 
 /// The number in the sample elements of the types here.

@@ -1,5 +1,5 @@
 ghost use Rattle.std.specs.Prelude.{◌≡◌, nat_lt};
-ghost use Rattle.elements.specs.ByPlaces.{numbers_transitive, numbers_trichotomy};
+ghost use Rattle.elements.specs.ByPlaces.{numbers_order};
 ghost use Rattle.std.proofs.Common.{rules};
 
 use crate::ordered::{Ordered, OrderedByCmp, sample_number};
@@ -18,9 +18,9 @@ impl Ordered for u64 {
         sample_number() as u64
     }
 
-    ghost law = { record { trichotomy = λ x y. numbers_trichotomy x y (x ≡ y) (λ e. e) (λ e. e); transitive = numbers_transitive } };
+    ghost law = { numbers_order };
 }
 
 impl OrderedByCmp for u64 {
-    ghost by_cmp = { Prim.search rules };
+    ghost law = { record { order = numbers_order; by_cmp = Prim.search rules } };
 }

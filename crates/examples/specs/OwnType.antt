@@ -4,7 +4,7 @@ use Rattle.std.proofs.Common.{subst, sym, ap, lit<}
 use Rattle.std.proofs.Math.Bridge.{le_prop}
 use Rattle.elements.specs.Orders.{IsOrder}
 use Rattle.elements.specs.ByPlaces.{numbers_transitive, numbers_trichotomy}
-use Rattle.sheets.specs.Layouts.{Format, FormatLaw, big_endian}
+use Rattle.sheets.specs.Layouts.{Format, big_endian}
 use Rattle.examples.specs.declared.own_type.Hops.{Hops}
 
 -- more hops are before fewer

@@ -10,9 +10,15 @@ use Rattle.faults.specs.declared.fault.SeatFault.TheVariants.{OfSheet, Own}
 use Rattle.faults.specs.declared.fault.RunFault.{RunFault}
 use Rattle.faults.specs.declared.fault.RunFault.TheVariants.{OfSeat, Own as OwnRun}
 use Rattle.faults.specs.declared.fault_info.FaultInfo.{FaultInfo}
+use Rattle.faults.specs.declared.fault_info.Notice.{Notice}
+use Rattle.faults.specs.RefusalNumbers.{number_of, spot_of}
 
 abbrev pub info_of : Refusal → Layer → Option Whose → FaultInfo
 info_of refusal layer seat = record { refusal = refusal; layer = layer; seat = seat }
+
+-- what that is outside: the refusal by its number and its spot, with layer and seat
+abbrev pub notice_of : FaultInfo → Notice
+notice_of info = record { number = number_of info.refusal; layer = info.layer; seat = info.seat; spot = spot_of info.refusal }
 
 abbrev pub sheet_info : SheetFault → FaultInfo
 sheet_info f = info_of f.refusal Sheet f.seat

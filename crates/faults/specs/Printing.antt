@@ -5,7 +5,8 @@ use Rattle.faults.specs.declared.seat.Seat.TheVariants.{A, B, Numbered}
 use Rattle.faults.specs.declared.fault_info.Layer.{Layer}
 use Rattle.faults.specs.declared.fault_info.Layer.TheVariants.{Sheet, Seat, Run}
 use Rattle.faults.specs.declared.fault_info.FaultInfo.{FaultInfo}
-use Rattle.faults.specs.RefusalNumbers.{number_of, spot_of}
+use Rattle.faults.specs.declared.fault_info.Notice.{Notice}
+use Rattle.faults.specs.FaultInfos.{notice_of}
 
 abbrev pub layer_text : Layer → List ℕ
 layer_text Sheet = codes "sheet"
@@ -27,6 +28,9 @@ abbrev pub text_or_dash : {X : Type 0} → (X → Option (List ℕ)) → Option 
 text_or_dash printed None = Some (codes "-")
 text_or_dash printed (Some x) = printed x
 
+abbrev pub notice_line : Notice → List ℕ
+notice_line n =
+    codes "refused " ++ (decimal n.number ++ (codes " " ++ (layer_text n.layer ++ (codes " " ++ (or_dash seat_text n.seat ++ (codes " " ++ or_dash decimal n.spot))))))
+
 abbrev pub fault_line : FaultInfo → List ℕ
-fault_line n =
-    codes "refused " ++ (decimal (number_of n.refusal) ++ (codes " " ++ (layer_text n.layer ++ (codes " " ++ (or_dash seat_text n.seat ++ (codes " " ++ or_dash decimal (spot_of n.refusal)))))))
+fault_line info = notice_line (notice_of info)

@@ -1,10 +1,10 @@
 ghost use Rattle.std.specs.Prelude.{◌≡◌, Some};
 ghost use Rattle.faults.specs.RefusalOrder.{answered};
 ghost use Rattle.faults.specs.declared.fault_info.FaultInfo.{FaultInfo};
-ghost use Rattle.faults.specs.FaultInfos.{info_of, sheet_info, seat_info, run_info, SeatKeepsSheet, RunKeepsSeat};
+ghost use Rattle.faults.specs.FaultInfos.{info_of, notice_of, sheet_info, seat_info, run_info, SeatKeepsSheet, RunKeepsSeat};
 ghost use Rattle.faults.specs.Printing.{fault_line};
 
-use crate::fault_info::{FaultInfo, Layer};
+use crate::fault_info::{FaultInfo, HasNotice, Layer, Notice};
 use crate::refusal::Refusal;
 use crate::seat::Seat;
 use std::fmt;
@@ -82,6 +82,32 @@ impl Fault for RunFault {
             RunFault::OfSeat(fault) => fault.info(),
             RunFault::Own(refusal, seat) => info_of(refusal, Layer::Run, seat),
         }
+    }
+}
+
+// The notice of a fault is that of what it says, whichever layer it is of.
+
+impl HasNotice for SheetFault {
+    ghost tells = { λ fault. notice_of (sheet_info fault) };
+
+    fn notice(self) -> Notice {
+        self.info().notice()
+    }
+}
+
+impl HasNotice for SeatFault {
+    ghost tells = { λ fault. notice_of (seat_info fault) };
+
+    fn notice(self) -> Notice {
+        self.info().notice()
+    }
+}
+
+impl HasNotice for RunFault {
+    ghost tells = { λ fault. notice_of (run_info fault) };
+
+    fn notice(self) -> Notice {
+        self.info().notice()
     }
 }
 

@@ -1,5 +1,6 @@
-ghost use Rattle.std.specs.Prelude.{Some};
-ghost use Rattle.faults.specs.Printing.{layer_text, text_or_dash, fault_line};
+ghost use Rattle.std.specs.Prelude.{◌≡◌, Some};
+ghost use Rattle.faults.specs.FaultInfos.{notice_of};
+ghost use Rattle.faults.specs.Printing.{layer_text, text_or_dash, notice_line, fault_line};
 
 use crate::refusal::Refusal;
 use crate::seat::Seat;
@@ -20,6 +21,39 @@ pub struct FaultInfo {
     pub refusal: Refusal,
     pub layer: Layer,
     pub seat: Option<Seat>,
+}
+
+/// What a fault is outside: the number of its refusal, the layer, the seat and the spot. Any number and any spot can stand here, so
+/// that a fault of a user's own has a line too.
+#[derive(Clone, Copy, Debug, PartialEq, Eq)]
+pub struct Notice {
+    pub number: u8,
+    pub layer: Layer,
+    pub seat: Option<Seat>,
+    pub spot: Option<u64>,
+}
+
+/// Whatever has a notice.
+pub trait HasNotice: Copy {
+    ghost use Rattle.faults.specs.declared.fault_info.Notice.{Notice};
+
+    ghost tells: { Self → Notice };
+
+    fn notice(self) -> Notice
+        ensures { result ≡ tells self };
+}
+
+impl HasNotice for FaultInfo {
+    ghost tells = { notice_of };
+
+    fn notice(self) -> Notice {
+        Notice {
+            number: self.refusal.number(),
+            layer: self.layer,
+            seat: self.seat,
+            spot: self.refusal.spot(),
+        }
+    }
 }
 
 impl fmt::Display for Layer {
@@ -49,18 +83,26 @@ impl<T: fmt::Display> fmt::Display for OrDash<T> {
     }
 }
 
+impl fmt::Display for Notice {
+    ghost output = { λ x. Some (notice_line x) };
+
+    fn fmt<W: fmt::Write>(&self, f: &mut fmt::Formatter<W>) -> fmt::Result {
+        let Notice {
+            number,
+            layer,
+            seat,
+            spot,
+        } = self;
+        let seat = OrDash(*seat);
+        let spot = OrDash(*spot);
+        write!(f, "refused {number} {layer} {seat} {spot}")
+    }
+}
+
 impl fmt::Display for FaultInfo {
     ghost output = { λ x. Some (fault_line x) };
 
     fn fmt<W: fmt::Write>(&self, f: &mut fmt::Formatter<W>) -> fmt::Result {
-        let FaultInfo {
-            refusal,
-            layer,
-            seat,
-        } = self;
-        let number = refusal.number();
-        let seat = OrDash(*seat);
-        let spot = OrDash(refusal.spot());
-        write!(f, "refused {number} {layer} {seat} {spot}")
+        self.notice().fmt(f)
     }
 }

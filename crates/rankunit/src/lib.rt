@@ -13,7 +13,7 @@ pub use elements::rank::{median_rank, percentile_rank};
 
 // Refusals: what a call refuses with, and the faults that carry it from layer to layer.
 pub use faults::fault::{Fault, RunFault, SeatFault, SheetFault};
-pub use faults::fault_info::{FaultInfo, Layer};
+pub use faults::fault_info::{FaultInfo, HasNotice, Layer, Notice};
 pub use faults::refusal::Refusal;
 pub use faults::seat::Seat;
 

@@ -1,7 +1,7 @@
 ghost use Rattle.std.specs.Prelude.{◌≡◌};
 ghost use Rattle.seats.specs.ListRefusals.{too_long, IsListRefusal};
 
-use elements::limits::LONGEST_LIST;
+use elements::limits::most_elements;
 use elements::list::first_fall;
 use elements::ordered::Ordered;
 use faults::refusal::Refusal;
@@ -10,7 +10,7 @@ use faults::refusal::Refusal;
 fn is_too_long<T>(list: &[T]) -> bool
     ensures { result ≡ too_long list.now }
 {
-    list.len() > LONGEST_LIST as usize
+    list.len() > most_elements()
 }
 
 /// Why a seat cannot report of a list, in either protocol, if it cannot.

@@ -5,7 +5,7 @@ ghost use Rattle.sheets.specs.Refusals.{header_refusal};
 
 use crate::body::Body;
 use crate::sheet_element::SheetElement;
-use elements::limits::LONGEST_LIST;
+use elements::limits::most_elements;
 use faults::refusal::Refusal;
 use std::marker::PhantomData;
 
@@ -27,7 +27,7 @@ pub(crate) fn check_header<T: SheetElement>(bytes: &[u8]) -> Result<Body<'_, T>,
     if *kind != T::kind_byte() {
         return Err(Refusal::KindNotWanted);
     }
-    if body.len() % T::BYTES_EACH != 0 || body.len() / T::BYTES_EACH > LONGEST_LIST as usize {
+    if body.len() % T::BYTES_EACH != 0 || body.len() / T::BYTES_EACH > most_elements() {
         return Err(Refusal::BodyNotAList);
     }
     Ok(Body {
