@@ -1,11 +1,14 @@
--- An element type of a user's own: numbers of hops, of which more come first, on sheets of kind 9.
-use Rattle.std.specs.Prelude.{◌≡◌, ℕ, ◌^◌, ◌<◌, Bool, nat_lt}
+-- An element type of a user's own: numbers of hops, of which more come first, on sheets of kind 9; and a fault of a user's own.
+use Rattle.std.specs.Prelude.{◌≡◌, ℕ, ◌^◌, ◌<◌, Bool, nat_lt, Some, None}
 use Rattle.std.proofs.Common.{subst, sym, ap, lit<}
 use Rattle.std.proofs.Math.Bridge.{le_prop}
 use Rattle.elements.specs.Orders.{IsOrder}
 use Rattle.elements.specs.ByPlaces.{numbers_transitive, numbers_trichotomy}
 use Rattle.sheets.specs.Layouts.{Format, big_endian}
+use Rattle.faults.specs.declared.fault_info.Notice.{Notice}
+use Rattle.faults.specs.declared.fault_info.Layer.TheVariants.{Run}
 use Rattle.examples.specs.declared.own_type.Hops.{Hops}
+use Rattle.examples.specs.declared.own_type.TooManyHops.{TooManyHops}
 
 -- more hops are before fewer
 abbrev pub hops_before : Hops → Hops → Bool
@@ -27,3 +30,6 @@ hops_order = record {
   trichotomy = λ x y. numbers_trichotomy y.number x.number (x ≡ y) (λ e. hops_alike x y (sym e)) (λ e. sym (ap (λ (h : Hops). h.number) e));
   transitive = λ x y z p q. numbers_transitive z.number y.number x.number q p;
 }
+
+abbrev pub too_many_hops : TooManyHops → Notice
+too_many_hops x = record { number = 99; layer = Run; seat = None; spot = Some x.hops.number }

@@ -1,6 +1,7 @@
 ghost use Rattle.std.specs.Prelude.{◌^◌, ◌<◌};
 
 use elements::ordered::Ordered;
+use faults::fault_info::{HasNotice, Layer, Notice};
 use sheets::sheet_element::SheetElement;
 
 /// A number of hops, as an element type of a user's own: more hops are before fewer, though its `Ord` goes by the number, and its
@@ -57,5 +58,26 @@ impl SheetElement for Hops {
     fn decode(bytes: &[u8]) -> Option<Hops> {
         let number = u32::from_be_bytes(<[u8; 4]>::try_from(bytes).ok()?);
         Some(Hops { number })
+    }
+}
+
+/// A fault of a user's own: more hops than are allowed, with a number that no refusal here has.
+#[derive(Clone, Copy, Debug, PartialEq, Eq)]
+pub struct TooManyHops {
+    pub hops: Hops,
+}
+
+impl HasNotice for TooManyHops {
+    ghost use Rattle.examples.specs.OwnType.{too_many_hops};
+
+    ghost tells = { too_many_hops };
+
+    fn notice(self) -> Notice {
+        Notice {
+            number: 99,
+            layer: Layer::Run,
+            seat: None,
+            spot: Some(self.hops.number as u64),
+        }
     }
 }

@@ -1,10 +1,11 @@
-use crate::own_type::Hops;
+use crate::own_type::{Hops, TooManyHops};
 use elements::delay::Delay;
 use elements::entry::Entry;
 use elements::link_level::LinkLevel;
 use elements::ordered::Ordered;
 use elements::placed::Placed;
 use faults::fault::{RunFault, SeatFault, SheetFault};
+use faults::fault_info::HasNotice;
 use faults::refusal::Refusal;
 use faults::seat::Seat;
 use referees::pile::{PileNumbers, play_on_loan};
@@ -153,4 +154,12 @@ fn a_type_of_ones_own_is_read_and_compared(rt: HostRuntime) {
         ask_first(&mut Plain::new(1), more, fewer),
         Ok(PairVerdict::Before)
     );
+}
+
+#[test]
+fn a_fault_of_ones_own_has_its_line(rt: HostRuntime) -> Result<(), Fail> {
+    let hops = Hops { number: 4 };
+    let line = TooManyHops { hops }.notice().to_string(rt.alloc())?;
+    assert_eq!(rt; line.as_str(), "refused 99 run - 4");
+    Ok(())
 }
